@@ -1,0 +1,5 @@
+mod Borne
+mod Letters
+pub mod Listed
+mod Partition
+mod Trials
