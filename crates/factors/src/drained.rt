@@ -4,7 +4,7 @@ ghost use Rattle.std.specs.shelf.Lists.{Has};
 ghost use Rattle.factors.specs.Drained.{all-classes, class-number};
 
 // The classes that a drained factor depends on.
-#[derive(Clone, Copy, PartialEq, Eq, Debug)]
+#[derive(Clone, Copy)]
 pub enum DrainedClass {
     TemperateCropGrass = 1,
     TropicalCropGrass,

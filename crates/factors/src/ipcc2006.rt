@@ -10,7 +10,12 @@ use super::site::Leaching;
 use super::site::Site;
 use super::site::Water;
 
-#[derive(Clone, Copy, Debug)]
+// EF4 is 0.010 and EF5 is 0.0075.
+const REDEPOSITED: u16 = 100;
+
+const RUNOFF: u16 = 75;
+
+#[derive(Clone, Copy)]
 pub struct Ipcc2006;
 
 // The direct factor, which depends on no other mark of the site.
@@ -56,11 +61,11 @@ pub impl FactorSet for Ipcc2006 as Ipcc2006FactorSet {
     }
 
     fn redeposited(&self, _site: Site) -> u16 {
-        100
+        REDEPOSITED
     }
 
     fn runoff(&self) -> u16 {
-        75
+        RUNOFF
     }
 
     fn drained(&self, class: DrainedClass) -> u16 {

@@ -12,6 +12,8 @@ mod trial;
 pub use drained::DrainedClass;
 pub use ground::Ground;
 pub use ground::Refusal;
+pub use ground::RefusalDebug;
+pub use ground::RefusalPartialEq;
 pub use ipcc2006::Ipcc2006;
 pub use ipcc2006::Ipcc2006FactorSet;
 pub use material::CarbonMaterial;

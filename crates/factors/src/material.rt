@@ -4,7 +4,7 @@ ghost use Rattle.std.specs.shelf.Lists.{Has};
 ghost use Rattle.factors.specs.Materials.{all-materials, all-carbon-materials, material-number};
 
 // A nitrogen material.
-#[derive(Clone, Copy, PartialEq, Eq, Debug)]
+#[derive(Clone, Copy, PartialEq, Eq)]
 pub enum Material {
     // fertiliser from a factory
     Synthetic = 1,
@@ -44,7 +44,7 @@ impl Material {
 }
 
 // A material whose carbon leaves as carbon dioxide.
-#[derive(Clone, Copy, PartialEq, Eq, Debug)]
+#[derive(Clone, Copy)]
 pub enum CarbonMaterial {
     Limestone,
     Dolomite,

@@ -6,26 +6,26 @@ ghost use Rattle.factors.specs.Site.{water-letter, climate-letter, leaching-le
 use std::fmt;
 
 // Flooded rice, or not.
-#[derive(Clone, Copy, PartialEq, Eq, Debug)]
+#[derive(Clone, Copy, PartialEq, Eq)]
 pub enum Water {
     Flooded,
     NotFlooded,
 }
 
-#[derive(Clone, Copy, PartialEq, Eq, Debug)]
+#[derive(Clone, Copy)]
 pub enum Climate {
     Wet,
     Dry,
 }
 
 // Whether nitrogen is washed out of the root zone.
-#[derive(Clone, Copy, PartialEq, Eq, Debug)]
+#[derive(Clone, Copy)]
 pub enum Leaching {
     Occurs,
     Absent,
 }
 
-#[derive(Clone, Copy, PartialEq, Eq, Debug)]
+#[derive(Clone, Copy)]
 pub struct Site {
     pub water: Water,
     pub climate: Climate,
@@ -33,7 +33,7 @@ pub struct Site {
 }
 
 impl Water {
-    pub fn letter(self) -> char
+    fn letter(self) -> char
         ensures { λ r. ⌜ r ≡ water-letter self ⌝ }
     {
         match self {
@@ -44,7 +44,7 @@ impl Water {
 }
 
 impl Climate {
-    pub fn letter(self) -> char
+    fn letter(self) -> char
         ensures { λ r. ⌜ r ≡ climate-letter self ⌝ }
     {
         match self {
@@ -55,7 +55,7 @@ impl Climate {
 }
 
 impl Leaching {
-    pub fn letter(self) -> char
+    fn letter(self) -> char
         ensures { λ r. ⌜ r ≡ leaching-letter self ⌝ }
     {
         match self {
