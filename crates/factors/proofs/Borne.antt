@@ -1,9 +1,9 @@
 -- What trials bear, and the table that a set over them has.
-use mathlib.Core.Path.{_≡_, refl, sym, ap, subst, fun-ext, _∙_}
-use mathlib.Core.Bool.{Bool, true, false}
+use mathlib.Core.Path.{_≡_, refl, sym, ap, subst, fun-ext}
+use mathlib.Core.Bool.{true}
 use mathlib.Core.List.{List, [], _∷_}
-use Prim.Native.Nat.{ℕ, _+_, _-_, _*_, _/_, _<_, _≤_, min}
-use native.Mathlib.Nat.{min-le-left, min-le-right, le-min, le-div-iff-mul-le, mul-le-mul-right, zero-mul}
+use Prim.Native.Nat.{ℕ, _-_, _*_, _/_, _<_, _≤_}
+use native.Mathlib.Nat.{min-le-left, min-le-right, le-min, le-div-iff-mul-le, mul-le-mul-right}
 use native.Mathlib.Omega.{arith}
 use Rattle.std.specs.declared.result.Result.the-variants.{Ok}
 use Rattle.std.specs.shelf.Lists.{All}
@@ -11,14 +11,13 @@ use Rattle.std.proofs.shelf.Elements.{all-kept-by}
 use Rattle.std.proofs.shelf.Sums.{sumBy-cons}
 use Rattle.factors.specs.declared.by_water.ByWater.{ByWater}
 use Rattle.factors.specs.declared.material.Material.{Material}
-use Rattle.factors.specs.declared.material.Material.the-variants.{Synthetic, Organic, Residue, Mineralised, CattlePoultryPigs, SheepAndOthers}
 use Rattle.factors.specs.declared.plot.PlotSet.{PlotSet}
 use Rattle.factors.specs.declared.site.Site.{Site}
 use Rattle.factors.specs.declared.site.Water.{Water}
 use Rattle.factors.specs.declared.site.Water.the-variants.{Flooded, NotFlooded}
 use Rattle.factors.specs.declared.trial.Trial.{Trial}
 use Rattle.factors.specs.Ipcc2006.{direct2006}
-use Rattle.factors.specs.Plot.{measured, answer, with-direct, plot-table, table-of, kept-for, at-water, Borne, LargestBorne, Answers, Both, Made}
+use Rattle.factors.specs.Plot.{measured, answer, with-direct, kept-for, at-water, LargestBorne, Answers, Both, Made}
 use Rattle.factors.specs.Trials.{trials-fit, is-of, chosen, applied-in, treated-in, control-in}
 use Rattle.factors.proofs.Trials.{InRange, all-in-range}
 

@@ -15,8 +15,10 @@ material-number Mineralised = 4
 material-number CattlePoultryPigs = 5
 material-number SheepAndOthers = 6
 
+-- the six nitrogen materials, in the order of the numbers
 abbrev pub all-materials : List Material
 all-materials = Synthetic ∷ Organic ∷ Residue ∷ Mineralised ∷ CattlePoultryPigs ∷ SheepAndOthers ∷ []
 
+-- the three carbon materials
 abbrev pub all-carbon-materials : List CarbonMaterial
 all-carbon-materials = Limestone ∷ Dolomite ∷ Urea ∷ []

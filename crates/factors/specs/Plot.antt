@@ -1,5 +1,5 @@
 -- The plot set: direct factors that trials bear.
-use mathlib.Core.Bool.{Bool, true, false, cond}
+use mathlib.Core.Bool.{cond}
 use mathlib.Core.List.{List, [], _∷_}
 use mathlib.Core.Path.{_≡_}
 use Prim.Native.Nat.{ℕ, _+_, _-_, _*_, _/_, _≤_, _<_, min}
@@ -18,7 +18,7 @@ use Rattle.factors.specs.declared.site.Site.{Site}
 use Rattle.factors.specs.declared.site.Water.{Water}
 use Rattle.factors.specs.declared.site.Water.the-variants.{Flooded, NotFlooded}
 use Rattle.factors.specs.declared.trial.Trial.{Trial}
-use Rattle.factors.specs.Grounds.{first-fault, Check}
+use Rattle.factors.specs.Grounds.{first-fault}
 use Rattle.factors.specs.Ipcc2006.{table2006, direct2006}
 use Rattle.factors.specs.Table.{Table}
 use Rattle.factors.specs.Trials.{trials-fit, chosen, applied-in, treated-in, control-in}
@@ -86,7 +86,7 @@ kept-for p Mineralised = p .mineralised
 kept-for p CattlePoultryPigs = p .«cattle_poultry_pigs»
 kept-for p SheepAndOthers = p .«sheep_and_others»
 
--- and of that, at a flood mark
+-- of a material's two direct answers, the one at a flood mark
 abbrev pub at-water : ByWater → Water → ℕ
 at-water b Flooded = b .flooded
 at-water b NotFlooded = b .«not_flooded»

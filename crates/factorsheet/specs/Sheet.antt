@@ -43,16 +43,19 @@ carbon-row t m = tabbed (carbon-name m) (decimal (t .carbon m) ∷ [])
 abbrev pub block : {X : Type 0} → List ℕ → (X → List ℕ) → List X → List ℕ
 block heading row xs = heading ++ joined row xs
 
--- what the nitrogen block says at its head
+-- the heading over the nitrogen materials and sites, with the units
 abbrev pub nitrogen-heading : List ℕ
 nitrogen-heading = tabbed (codes "number") (codes "material" ∷ codes "site" ∷ codes "direct /10000" ∷ codes "volatilised /1000" ∷ codes "leached /1000" ∷ [])
 
+-- the heading over the sites
 abbrev pub redeposited-heading : List ℕ
 redeposited-heading = tabbed (codes "site") (codes "redeposited /10000" ∷ [])
 
+-- the heading over the classes of drained soil
 abbrev pub drained-heading : List ℕ
 drained-heading = tabbed (codes "class") (codes "drained soil" ∷ codes "g N2O-N per are" ∷ [])
 
+-- the heading over the carbon materials
 abbrev pub carbon-heading : List ℕ
 carbon-heading = tabbed (codes "material") (codes "carbon /1000" ∷ [])
 

@@ -13,7 +13,7 @@ use factors::Water;
 use sheet::factor_sheet;
 use std::error::AnyError;
 
-// Two trials of synthetic fertiliser on dry-footed crops, one on flooded rice, and one of slurry that gave off less than its control plot.
+// Two trials of synthetic fertiliser on land that is not flooded, one on flooded rice, and one of organic fertiliser whose treated plot gave off less than its control plot.
 const TRIALS: [Trial; 4] = [
     Trial {
         material: Material::Synthetic,

@@ -1,5 +1,4 @@
 use mathlib.Core.Path.{sym, _∙_}
-use native.Mathlib.Omega.{arith}
 use borrow.Author.Needs.{needs}
 use Rattle.factors.specs.Trials.{chosen}
 use Rattle.factors.proofs.Borne.{answer-none, chosen-in-range}

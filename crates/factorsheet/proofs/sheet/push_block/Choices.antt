@@ -3,7 +3,6 @@ use mathlib.Core.Path.{_≡_}
 use lib.ListN.{drop}
 use Rattle.std.specs.Of.String.{string-bytes}
 use Rattle.std.specs.shelf.Lists.{joined}
-use Rattle.factorsheet.specs.Sheet.{block}
 use Rattle.factorsheet.proofs.sheet.push_block.Given as given
 
 -- what is written, and the rows ahead, are the whole

@@ -1,9 +1,8 @@
-use mathlib.Core.Path.{_≡_, refl, sym, ap, _∙_}
+use mathlib.Core.Path.{ap}
 use mathlib.Core.Bool.{true, false}
-use Prim.Native.Nat.{_+_, _≤_, _<_}
+use Prim.Native.Nat.{_+_, _≤_}
 use native.Mathlib.Omega.{arith}
 use borrow.Author.Needs.{needs}
-use lib.ListN.{length}
 use Rattle.factors.specs.Plot.{Adds}
 use Rattle.factors.specs.Trials.{chosen}
 use Rattle.factors.proofs.Trials.{at-most, in-range-at, few-trials, reached-more, reached-all}

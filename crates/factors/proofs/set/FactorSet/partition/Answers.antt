@@ -1,7 +1,6 @@
 use Prim.Native.Nat.{_+_, _*_, _≤_}
-use mathlib.Core.Path.{_≡_, _∙_, ap}
+use mathlib.Core.Path.{_∙_, ap}
 use native.Mathlib.Omega.{arith}
-use borrow.Author.Needs.{needs}
 use Rattle.factors.proofs.Partition.{parts-whole}
 use Rattle.factors.proofs.set.FactorSet.partition.Given as given
 use Rattle.factors.proofs.set.FactorSet.partition.Needs as need
