@@ -1,7 +1,7 @@
 -- What it says of an activity's numbers that none is out of its range.
 use Rattle.std.proofs.Common.{◌≡◌, ℕ, ◌+◌, ◌*◌, ◌≤◌, Bool, true, false, cond, List, [], ◌∷◌, Some, None, Option, sym, mul-le-mul, arith}
 use Rattle.std.proofs.lemmas.Bool.Decides.{nat_tests}
-use Rattle.std.specs.List.{AllByRecursion as All}
+use Rattle.std.specs.List.{AllByRecursion}
 use Rattle.factors.proofs.Nothing.{none_some}
 use Rattle.book.specs.declared.entry.Activity.{Activity}
 use Rattle.book.specs.declared.ranges.Range.{Range}
@@ -18,13 +18,13 @@ first_inside : (b : Bool) (place : ℕ) (later : Option ℕ) → cond b later (S
 first_inside true place later e = (cc, e)
 first_inside false place later e = none_some place (sym e)
 
-all_inside : (place : ℕ) (xs : List (ℕ × Range)) → outside place xs ≡ None → All Inside xs
+all_inside : (place : ℕ) (xs : List (ℕ × Range)) → outside place xs ≡ None → AllByRecursion Inside xs
 all_inside place [] e = tt
 all_inside place (x ∷ xs) e =
     let parts = first_inside (within x.0 x.1) place (outside (place + 1) xs) e in
     (inside x parts.0, all_inside (place + 1) xs parts.1)
 
-pub activity_inside : (a : Activity) → range_fault a ≡ None → All Inside (ranged a)
+pub activity_inside : (a : Activity) → range_fault a ≡ None → AllByRecursion Inside (ranged a)
 activity_inside a e = all_inside (first_place a) (ranged a) e
 
 -- a product is at most the product of the bounds

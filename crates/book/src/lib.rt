@@ -1,4 +1,6 @@
 // Entries of a farm's year: what they are, when they are lawful, and how much nitrogen they bring.
+#![tactic(auto)]
+
 mod activity;
 mod crops;
 mod entry;

@@ -1,4 +1,6 @@
 // Examples of entries that are accepted and refused.
+#![tactic(auto)]
+
 #[cfg(test)]
 mod tests {
     use book::{Activity, Animals, CropResidues, Entry, Herd, LimeStone, crop_row};

@@ -2,7 +2,7 @@
 use Rattle.std.proofs.Common.{◌≡◌, ℕ, ◌-◌, ◌*◌, ◌/◌, ◌<◌, ◌≤◌, true, List, [], ◌∷◌, Ok, sym, refl, ap, subst, mul-le-mul_right, le-div_iff_mul-le, arith}
 use mathlib.Core.Path.{fun_ext}
 use native.Mathlib.Nat.{min-le_left, min-le_right, le-min}
-use Rattle.std.specs.List.{AllByRecursion as All}
+use Rattle.std.specs.List.{AllByRecursion}
 use Rattle.std.proofs.ByRecursion.{all_kept_by}
 use Rattle.std.proofs.lemmas.List.Sums.{sum_by-cons}
 use Rattle.factors.specs.declared.by_water.ByWater.{ByWater}
@@ -35,15 +35,15 @@ pub in_range_applied : (t : Trial) (ts : List Trial) → InRange t → 0 < appli
 in_range_applied t ts r = omega (arith, sum_by-cons (λ t. t.applied) t ts, r.some_applied)
 
 -- where nothing was applied there is no trial
-pub answer_none : (m : Material) (w : Water) (ts : List Trial) → All InRange ts → applied_in ts ≡ 0 → direct2006 m w ≡ answer m w ts
+pub answer_none : (m : Material) (w : Water) (ts : List Trial) → AllByRecursion InRange ts → applied_in ts ≡ 0 → direct2006 m w ≡ answer m w ts
 answer_none m w [] all e = refl
 answer_none m w (t ∷ ts) all e = absurd (let some = in_range_applied t ts all.0 in omega arith)
 
-answers : (m : Material) (w : Water) (ts : List Trial) → All InRange ts → Answers m w ts (answer m w ts)
+answers : (m : Material) (w : Water) (ts : List Trial) → AllByRecursion InRange ts → Answers m w ts (answer m w ts)
 answers m w [] all = refl
 answers m w (t ∷ ts) all = quotient_borne (t ∷ ts) (in_range_applied t ts all.0)
 
-pub chosen_in_range : (m : Material) (w : Water) (ts : List Trial) → trials_fit ts ≡ true → All InRange (chosen m w ts)
+pub chosen_in_range : (m : Material) (w : Water) (ts : List Trial) → trials_fit ts ≡ true → AllByRecursion InRange (chosen m w ts)
 chosen_in_range m w ts fit = all_kept_by (is_of m w) InRange ts (all_in_range ts fit)
 
 at_both : (ts : List Trial) (m : Material) (b : ByWater) (w : Water) → Both ts m b → at_water b w ≡ answer m w (chosen m w ts)

@@ -1,7 +1,7 @@
 -- What is found in a list by its number.
 use Rattle.std.proofs.Common.{◌≡◌, ℕ, Bool, true, false, cond, eqb, List, [], ◌∷◌, IfSome, Some, Option, refl, ap, ◌∙◌}
 use Rattle.std.proofs.lemmas.Bool.{eqb-true}
-use Rattle.std.specs.List.{AllByRecursion as All}
+use Rattle.std.specs.List.{AllByRecursion}
 use Rattle.factors.specs.Lookup.{found}
 use Rattle.factors.proofs.Nothing.{none_some}
 
@@ -20,6 +20,6 @@ either P true x later here there = here
 either P false x later here there = there
 
 -- what holds of each member holds of the one found
-pub found_all : {X : Type 0} (P : X → Type 0) (number : X → ℕ) (n : ℕ) (xs : List X) → All P xs → IfSome (found number n xs) P
+pub found_all : {X : Type 0} (P : X → Type 0) (number : X → ℕ) (n : ℕ) (xs : List X) → AllByRecursion P xs → IfSome (found number n xs) P
 found_all P number n [] h = tt
 found_all P number n (x ∷ xs) h = either P (eqb n (number x)) x (found number n xs) h.0 (found_all P number n xs h.1)

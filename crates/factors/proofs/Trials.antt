@@ -1,6 +1,6 @@
 -- The trials ahead of a loop, and what fit trials add up to.
 use Rattle.std.proofs.Common.{◌≡◌, ℕ, ◌+◌, ◌*◌, ◌<◌, ◌≤◌, Bool, true, false, cond, ◌&&◌, leb, List, [], ◌∷◌, length, get_or, drop, sum_by, filter, sym, ap, ◌∙◌, subst, arith}
-use Rattle.std.specs.List.{AllByRecursion as All}
+use Rattle.std.specs.List.{AllByRecursion}
 use Rattle.std.proofs.lemmas.List.{at_drop_more, at_drop_all}
 use Rattle.std.proofs.lemmas.List.Sums.{sum_by-cons}
 use Rattle.factors.specs.declared.trial.Trial.{Trial}
@@ -12,7 +12,7 @@ use Rattle.factors.specs.Trials.{trial_fits, each_fits, trials_fit}
 pub each_ahead : (ts : List Trial) (i : ℕ) (d : Trial) (b : Bool) → i < length ts → b ≡ trial_fits (get_or ts i d) → each_fits (drop i ts) ≡ (b && each_fits (drop (i + 1) ts))
 each_ahead ts i d b h e = at_drop_more each_fits ts i d h ∙ ap (λ f. f && each_fits (drop (i + 1) ts)) (sym e)
 
-all_fit : (ts : List Trial) → each_fits ts ≡ true → All (λ t. trial_fits t ≡ true) ts
+all_fit : (ts : List Trial) → each_fits ts ≡ true → AllByRecursion (λ t. trial_fits t ≡ true) ts
 all_fit [] e = tt
 all_fit (t ∷ ts) e = let parts = and_parts (trial_fits t) (each_fits ts) e in (parts.0, all_fit ts parts.1)
 
@@ -31,7 +31,7 @@ in_range t e = record {
   few_control = grind (arith, nat_tests);
 }
 
-pub all_in_range : (ts : List Trial) → trials_fit ts ≡ true → All InRange ts
+pub all_in_range : (ts : List Trial) → trials_fit ts ≡ true → AllByRecursion InRange ts
 all_in_range ts e = All-weaker (λ t. trial_fits t ≡ true) InRange in_range ts (all_fit ts (and_parts (leb (length ts) 64) (each_fits ts) e).1)
 
 pub in_range_at : (ts : List Trial) (i : ℕ) (d : Trial) → i < length ts → trials_fit ts ≡ true → InRange (get_or ts i d)

@@ -1,6 +1,6 @@
 // Drained organic soils.
 ghost use Rattle.std.specs.Prelude.{◌≡◌};
-ghost use Rattle.std.specs.List.{ContainsAt as Has};
+ghost use Rattle.std.specs.List.{ContainsAt};
 ghost use Rattle.factors.specs.Drained.{all_classes, class_number};
 
 // The classes that a drained factor depends on.
@@ -17,7 +17,7 @@ impl DrainedClass {
     // Each class, in the order of the numbers.
     pub fn all() -> [DrainedClass; 5]
         ensures list { result ≡ all_classes }
-        ensures each { (c : DrainedClass) → Has result c }
+        ensures each { (c : DrainedClass) → ContainsAt result c }
     {
         [
             DrainedClass::TemperateCropGrass,

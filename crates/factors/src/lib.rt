@@ -1,4 +1,6 @@
 // Emission factors for nitrogen put on land, drained peat, lime and urea: what a factor set is, and two sets.
+#![tactic(auto)]
+
 mod by_water;
 mod drained;
 mod ground;

@@ -1,6 +1,6 @@
 // What brings nitrogen or carbon to the land.
 ghost use Rattle.std.specs.Prelude.{◌≡◌};
-ghost use Rattle.std.specs.List.{ContainsAt as Has};
+ghost use Rattle.std.specs.List.{ContainsAt};
 ghost use Rattle.factors.specs.Materials.{all_materials, all_carbon_materials, material_number};
 
 // A nitrogen material.
@@ -24,7 +24,7 @@ impl Material {
     // Each material, in the order of the numbers.
     pub fn all() -> [Material; 6]
         ensures list { result ≡ all_materials }
-        ensures each { (m : Material) → Has result m }
+        ensures each { (m : Material) → ContainsAt result m }
     {
         [
             Material::Synthetic,
@@ -54,7 +54,7 @@ pub enum CarbonMaterial {
 impl CarbonMaterial {
     pub fn all() -> [CarbonMaterial; 3]
         ensures list { result ≡ all_carbon_materials }
-        ensures each { (m : CarbonMaterial) → Has result m }
+        ensures each { (m : CarbonMaterial) → ContainsAt result m }
     {
         [
             CarbonMaterial::Limestone,

@@ -1,6 +1,6 @@
 // Where nitrogen is put: the three marks that factors depend on.
 ghost use Rattle.std.specs.Prelude.{◌≡◌, Some};
-ghost use Rattle.std.specs.List.{ContainsAt as Has};
+ghost use Rattle.std.specs.List.{ContainsAt};
 ghost use Rattle.factors.specs.Site.{water_letter, climate_letter, leaching_letter, site_letters, sites_with, all_sites, site_of, Spelt};
 
 use std::fmt;
@@ -97,7 +97,7 @@ impl Site {
     // Each site: U before R, W before D, L before N.
     pub fn all() -> [Site; 8]
         ensures list { result ≡ all_sites }
-        ensures each { (s : Site) → Has result s }
+        ensures each { (s : Site) → ContainsAt result s }
     {
         let [a, b, c, d] = Site::with_water(Water::NotFlooded);
         let [e, f, g, h] = Site::with_water(Water::Flooded);

@@ -1,4 +1,6 @@
 // Examples of what factor sets answer and refuse.
+#![tactic(auto)]
+
 #[cfg(test)]
 mod tests {
     use factors::{

@@ -1,4 +1,6 @@
 // Prints the whole factor sheet of the 2006 set, and then of a plot set over a few trials.
+#![tactic(auto)]
+
 mod names;
 mod rows;
 mod sheet;

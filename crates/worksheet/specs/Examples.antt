@@ -1,6 +1,6 @@
 -- Worked examples: entries, and what judging them answers.
 use Rattle.std.specs.Prelude.{◌≡◌, ℕ, List, [], ◌∷◌, Some, None, Ok, Err, Option, Result}
-use Rattle.std.specs.List.{AllByRecursion as All}
+use Rattle.std.specs.List.{AllByRecursion}
 use Rattle.factors.specs.declared.ground.Ground.{Ground}
 use Rattle.factors.specs.declared.ground.Ground.TheVariants.{NumberOutOfRange, UnknownLand, UnknownSite, FieldOutOfRange, UnknownCrop, SharesAboveWhole, TooManyGrams}
 use Rattle.factors.specs.declared.ground.Refusal.{Refusal}
@@ -76,4 +76,4 @@ worked =
 
 -- each is judged as the table says
 abbrev pub Right : List (Entry × Result ℕ Refusal) → Type 0
-Right xs = All (λ x. outcome x.0 ≡ x.1) xs
+Right xs = AllByRecursion (λ x. outcome x.0 ≡ x.1) xs

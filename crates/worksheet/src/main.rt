@@ -1,4 +1,6 @@
 // Prints what judging a few worked examples answers.
+#![tactic(auto)]
+
 mod examples;
 mod line;
 
