@@ -11,7 +11,7 @@ use Rattle.factors.specs.declared.site.Site.{Site}
 use Rattle.factors.specs.declared.site.Water.{Water}
 use Rattle.factors.specs.declared.site.Water.TheVariants.{Flooded, NotFlooded}
 use Rattle.factors.specs.declared.trial.Trial.{Trial}
-use Rattle.factors.specs.Grounds.{first_fault}
+use Rattle.factors.specs.Grounds.{check_on, first_fault}
 use Rattle.factors.specs.Ipcc2006.{table2006, direct2006}
 use Rattle.factors.specs.Table.{Table}
 use Rattle.factors.specs.Trials.{trials_fit, chosen, applied_in, treated_in, control_in}
@@ -68,7 +68,7 @@ DirectLaw ts table = (m : Material) (s : Site) → Answers m s.water (chosen m s
 
 -- why no set is made over these trials
 abbrev pub plot_refusal : List Trial → Option Refusal
-plot_refusal ts = first_fault (record { ground = UnfitTrials; fault = cond (trials_fit ts) None (Some 0) } ∷ [])
+plot_refusal ts = first_fault (check_on UnfitTrials (cond (trials_fit ts) None (Some 0)) ∷ [])
 
 -- what a set keeps for a material
 abbrev pub kept_for : PlotSet → Material → ByWater

@@ -12,8 +12,8 @@ bounded above harvest dry ratio nitrogen a h d r n =
     let fed = product_le {a = plant * ratio} {b = nitrogen} 510000000000000 255 rooted n in
     omega arith
 
-pub overflow-mul-result-2 : goal.overflow-mul-result-2
-overflow-mul-result-2 c =
+pub overflow_mul-result-2 : goal.overflow_mul-result-2
+overflow_mul-result-2 c =
     let row = c.args.row in
     let left = c.args.left in
     let ranges = activity_inside (Residues left) c.requires in

@@ -9,9 +9,9 @@ returns-then-sums-eq0 c =
     let w = c.args.water in
     let ts = c.args.trials.now in
     record {
-      value = c.direct-by-water.ensures ∙ answer_none m w (chosen m w ts) (chosen_in_range m w ts c.requires) (sym c.of-sums.ensures.sums.applied_sum ∙ c.if-sums-eq0.true);
+      value = c.direct_by_water.ensures ∙ answer_none m w (chosen m w ts) (chosen_in_range m w ts c.requires) (sym c.of-sums.ensures.sums.applied_sum ∙ c.if-sums-eq0.true);
       within = search rules;
     }
 
-pub overflow-mul-net : goal.overflow-mul-net
-overflow-mul-net c = let few = c.of-sums.ensures.bound in search rules
+pub overflow_mul-net : goal.overflow_mul-net
+overflow_mul-net c = let few = c.of-sums.ensures.bound in search rules

@@ -8,11 +8,11 @@ sum_rule g c =
     let rule = (g.met.Self.FactorSet.lawful c.args.self.now).sum_rule c.args.material c.args.site in
     omega (arith, c.volatilised.ensures, c.leached.ensures)
 
-pub overflow-sub-result : goal.overflow-sub-result
-overflow-sub-result g c = omega (arith, sum_rule g c)
+pub overflow_sub-result : goal.overflow_sub-result
+overflow_sub-result g c = omega (arith, sum_rule g c)
 
-pub overflow-sub-result-2 : goal.overflow-sub-result-2
-overflow-sub-result-2 g c = omega (arith, sum_rule g c)
+pub overflow_sub-result-2 : goal.overflow_sub-result-2
+overflow_sub-result-2 g c = omega (arith, sum_rule g c)
 
 pub returns : goal.returns
 returns g c = record {

@@ -3,6 +3,6 @@ use Rattle.factors.proofs.site.Site.all.Goals as goal
 
 pub returns : goal.returns
 returns c = record {
-  list = four_and_four _ _ _ c.with-water.ensures c.with-water-2.ensures;
-  each = has_each_site (four_and_four _ _ _ c.with-water.ensures c.with-water-2.ensures);
+  list = four_and_four _ _ _ c.with_water.ensures c.with_water-2.ensures;
+  each = has_each_site (four_and_four _ _ _ c.with_water.ensures c.with_water-2.ensures);
 }
