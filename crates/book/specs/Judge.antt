@@ -1,6 +1,6 @@
 -- Which entries are lawful, and what is kept of them.
 use Rattle.std.specs.Prelude.{◌≡◌, ℕ, Bool, cond, List, [], ◌∷◌, ◌++◌, is_some, Some, None, Ok, Err, Option, Result, nat_le}
-use Rattle.factors.specs.Grounds.{Check, first_fault, FirstFits}
+use Rattle.factors.specs.Grounds.{Check, check_on, first_fault, FirstFits}
 use Rattle.factors.specs.Site.{site_of}
 use Rattle.factors.specs.declared.ground.Ground.{Ground}
 use Rattle.factors.specs.declared.ground.Ground.TheVariants.{NumberOutOfRange, UnknownLand, UnknownSite, FieldOutOfRange, UnknownCrop, SharesAboveWhole, TooManyGrams}
@@ -20,7 +20,7 @@ use Rattle.book.specs.Ranges.{numbers, within, range_fault}
 
 -- a ground that names this field where a test fails
 abbrev pub unless : Bool → Ground → ℕ → Check
-unless test g field = record { ground = g; fault = cond test None (Some field) }
+unless test g field = check_on g (cond test None (Some field))
 
 -- the number is in its range
 abbrev pub number_check : ℕ → Check
@@ -36,7 +36,7 @@ site_check letters = unless (is_some (site_of letters)) UnknownSite 3
 
 -- the activity's numbers are in their ranges; the first that is not is named
 abbrev pub range_check : Activity → Check
-range_check a = record { ground = FieldOutOfRange; fault = range_fault a }
+range_check a = check_on FieldOutOfRange (range_fault a)
 
 -- the crop has a row, and manure shares are lawful
 abbrev pub kind_checks : Activity → List Check

@@ -24,7 +24,7 @@ outcome e = unless_refused (entry_refusal e) (grams_of e.activity)
 
 -- a refusal on this ground, at this field
 abbrev refused : Ground → ℕ → Result ℕ Refusal
-refused g f = Err (record { ground = g; field = f })
+refused g f = Err (refusal_on g f)
 
 -- an entry by its number, its land letter, its site letters and its activity
 abbrev entry : ℕ → ℕ → List ℕ → Activity → Entry

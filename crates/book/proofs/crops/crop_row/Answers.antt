@@ -11,14 +11,14 @@ code_of r = r.code
 limited : (code : ℕ) (r : Option CropRow) → r ≡ row_of code → ShareLimit r
 limited code r e = subst (λ (z : Option CropRow). ShareLimit z) (sym e) (found_all (λ r. r.combusted ≤ 100) code_of code crop_rows (omega arith, (omega arith, (omega arith, (omega arith, (omega arith, (omega arith, tt)))))))
 
-pub returns-in-err-i : goal.returns-in-err-i
-returns-in-err-i c =
+pub returns-in_err-i : goal.returns-in_err-i
+returns-in_err-i c =
     let code = c.args.code in
-    let e : c.from-residual.result ≡ row_of code = c.from-residual.ensures ∙ sym (found_none code_of crop_rows code c.in-err-i.ensures) in
-    record { row = e; limit = limited code c.from-residual.result e }
+    let e : c.from_residual.result ≡ row_of code = c.from_residual.ensures ∙ sym (found_none code_of crop_rows code c.in_err-i.ensures) in
+    record { row = e; limit = limited code c.from_residual.result e }
 
 pub returns : goal.returns
 returns c =
     let code = c.args.code in
-    let e = sym (found_some code_of crop_rows code _ c.in-ok-i.i c.in-ok-i.ensures) in
+    let e = sym (found_some code_of crop_rows code _ c.in_ok-i.i c.in_ok-i.ensures) in
     record { row = e; limit = limited code _ e }

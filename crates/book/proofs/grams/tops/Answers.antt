@@ -3,8 +3,8 @@ use Rattle.book.specs.declared.entry.Activity.TheVariants.{Residues}
 use Rattle.book.proofs.InRanges.{activity_inside, product_le}
 use Rattle.book.proofs.grams.tops.Goals as goal
 
-pub overflow_sub-not-burnt : goal.overflow_sub-not-burnt
-overflow_sub-not-burnt c =
+pub overflow_sub-not_burnt : goal.overflow_sub-not_burnt
+overflow_sub-not_burnt c =
     let ranges = activity_inside (Residues c.args.left) c.requires.0 in
     let combusted = product_le {a = c.args.left.burnt} {b = c.args.row.combusted} 100 100 (omega arith) c.requires.1 in
     omega arith

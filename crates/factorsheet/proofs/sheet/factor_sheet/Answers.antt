@@ -9,8 +9,8 @@ returns g c =
     (block_more drained_heading (drained_row t) _ _ _ _ _
     (block_more redeposited_heading (redeposited_row t) _ _ _ _ _
     (block_more nitrogen_heading (nitrogen_rows t) _ _ _ _ _
-    c.in-ok-text.ensures
-    c.in-ok-push-block.ensures c.all.ensures.list)
-    c.in-ok-push-block-2.ensures c.all-2.ensures.list)
-    c.in-ok-push-block-3.ensures c.all-3.ensures.list)
-    c.in-ok-push-block-4.ensures c.all-4.ensures.list
+    c.in_ok-text.ensures
+    c.in_ok-push_block.ensures c.all.ensures.list)
+    c.in_ok-push_block-2.ensures c.all-2.ensures.list)
+    c.in_ok-push_block-3.ensures c.all-3.ensures.list)
+    c.in_ok-push_block-4.ensures c.all-4.ensures.list

@@ -4,6 +4,6 @@ use Rattle.factorsheet.proofs.rows.MaterialRow.filled.Goals as goal
 
 pub loop-site-preserved : goal.loop-site-preserved
 loop-site-preserved g c =
-    let within : c.loop-site.site-index < length c.all_sites.result = omega (arith, ap length c.all_sites.ensures.list) in
-    row_more _ c.all_sites.result c.loop-site.site-index _ _ _ _ _ within c.loop-site.invariant
-    c.in-ok-push-str.ensures.bytes (c.as-str.ensures.value ∙ c.in-ok-line.ensures)
+    let within : c.loop-site.site-index < length c.all-sites.result = omega (arith, ap length c.all-sites.ensures.list) in
+    row_more _ c.all-sites.result c.loop-site.site-index _ _ _ _ _ within c.loop-site.invariant
+    c.in_ok-push_str.ensures.bytes (c.as_str.ensures.value ∙ c.in_ok-line.ensures)
