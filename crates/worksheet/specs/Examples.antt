@@ -4,6 +4,7 @@ use Rattle.std.specs.List.{AllByRecursion}
 use Rattle.factors.specs.declared.ground.Ground.{Ground}
 use Rattle.factors.specs.declared.ground.Ground.TheVariants.{NumberOutOfRange, UnknownLand, UnknownSite, FieldOutOfRange, UnknownCrop, SharesAboveWhole, TooManyGrams}
 use Rattle.factors.specs.declared.ground.Refusal.{Refusal}
+use Rattle.factors.specs.Grounds.{refusal_on}
 use Rattle.book.specs.declared.entry.Activity.{Activity}
 use Rattle.book.specs.declared.entry.Activity.TheVariants.{Synthetic, Manure, Sludge, Grazing, Residues, Mineralised, Drained, Lime, Urea}
 use Rattle.book.specs.declared.entry.Animals.{Animals}
