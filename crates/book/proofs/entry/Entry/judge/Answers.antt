@@ -1,4 +1,4 @@
-use Rattle.std.proofs.Common.{◌≡◌, ◌<◌, ◌≤◌, Some, None, Err, Result, sym, ap, ◌∙◌, subst, arith, rules}
+use Rattle.std.proofs.Common.{◌≡◌, ◌<◌, ◌≤◌, Some, None, Err, Result, sym, ap, ◌∙◌, subst, rules}
 use Rattle.factors.specs.Grounds.{first_fault}
 use Rattle.factors.specs.declared.ground.Refusal.{Refusal}
 use Rattle.book.specs.declared.entry.Activity.{Activity}
