@@ -39,7 +39,7 @@ refusal_on g f = record { ground = g; field = f }
 
 -- a refusal on this ground if it fits, else what comes later
 abbrev pub or_later : Ground → Option ℕ → Option Refusal → Option Refusal
-or_later g (Some f) later = Some (refusal_on g f)
+or_later g (Some f) later = Some (record { ground = g; field = f })
 or_later g None later = later
 
 -- a call is refused on the first ground, in its checking order, that fits
@@ -54,4 +54,4 @@ NoneFits cs = AllByRecursion (λ c. c.fault ≡ None) cs
 -- the law of a refusal: there is none exactly where no ground fits; else its ground fits, with its field, and none before it does
 abbrev pub FirstFits : List Check → Option Refusal → Type 0
 FirstFits cs None = NoneFits cs
-FirstFits cs (Some r) = (before : List Check) × (after : List Check) × (cs ≡ before ++ (check_on r.ground (Some r.field) ∷ after)) × NoneFits before
+FirstFits cs (Some r) = (before : List Check) × (after : List Check) × (cs ≡ before ++ (record { ground = r.ground; fault = Some r.field } ∷ after)) × NoneFits before

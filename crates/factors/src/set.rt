@@ -14,7 +14,7 @@ pub trait FactorSet {
 
     ghost table: { Self → Table };
 
-    // The edition year, for code that has only the bound: a constant tells a proof nothing.
+    // The edition year, for code that has only the bound.
     fn edition_year() -> u16
         ensures { result ≡ edition };
 
