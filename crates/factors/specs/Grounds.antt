@@ -1,6 +1,5 @@
 -- The numbers of the grounds, and which ground a call is refused on.
-use Rattle.std.specs.Prelude.{◌≡◌, ℕ, List, [], ◌∷◌, ◌++◌, Some, None, Option}
-use Rattle.std.specs.List.{AllByRecursion}
+use Rattle.std.specs.Prelude.{◌≡◌, ℕ, List, [], ◌∷◌, ◌++◌, All, Some, None, Option}
 use Rattle.factors.specs.declared.ground.Refusal.{Refusal}
 use Rattle.factors.specs.declared.ground.Ground.{Ground}
 use Rattle.factors.specs.declared.ground.Ground.TheVariants.{NoLineFeed, WrongShape, NotPlain, NumberOutOfRange, UnknownLand, UnknownSite, FieldOutOfRange, UnknownCrop, SharesAboveWhole, TooManyGrams, AlreadyStands, BookFull, LandFull, NotStanding, BufferTooShort, UnfitTrials}
@@ -49,7 +48,7 @@ first_fault (c ∷ cs) = or_later c.ground c.fault (first_fault cs)
 
 -- no ground fits
 abbrev pub NoneFits : List Check → Type 0
-NoneFits cs = AllByRecursion (λ c. c.fault ≡ None) cs
+NoneFits cs = All (λ c. c.fault ≡ None) cs
 
 -- the law of a refusal: there is none exactly where no ground fits; else its ground fits, with its field, and none before it does
 abbrev pub FirstFits : List Check → Option Refusal → Type 0

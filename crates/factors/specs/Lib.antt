@@ -2,6 +2,7 @@ pub mod Lookup
 pub mod Materials
 pub mod Drained
 pub mod Site
+pub mod Whole
 pub mod Grounds
 pub mod Table
 pub mod Ipcc2006

@@ -1,12 +1,13 @@
 -- The plot set: direct factors that trials bear.
 use Rattle.std.specs.Prelude.{◌≡◌, ℕ, ◌+◌, ◌-◌, ◌*◌, ◌/◌, ◌<◌, ◌≤◌, min, cond, List, [], ◌∷◌, Some, None, Ok, Err, Option, Result}
 use Rattle.factors.specs.declared.by_water.ByWater.{ByWater}
+use Rattle.factors.specs.declared.fit_trials.FitTrials.{FitTrials}
 use Rattle.factors.specs.declared.ground.Refusal.{Refusal}
 use Rattle.factors.specs.declared.ground.Ground.TheVariants.{UnfitTrials}
 use Rattle.factors.specs.declared.material.Material.{Material}
 use Rattle.factors.specs.declared.material.Material.TheVariants.{Synthetic, Organic, Residue, Mineralised, CattlePoultryPigs, SheepAndOthers}
 use Rattle.factors.specs.declared.plot.PlotSet.{PlotSet}
-use Rattle.factors.specs.declared.plot.Totals.{Totals}
+use Rattle.factors.specs.declared.fit_trials.Totals.{Totals}
 use Rattle.factors.specs.declared.site.Site.{Site}
 use Rattle.factors.specs.declared.site.Water.{Water}
 use Rattle.factors.specs.declared.site.Water.TheVariants.{Flooded, NotFlooded}
@@ -69,6 +70,11 @@ DirectLaw ts table = (m : Material) (s : Site) → Answers m s.water (chosen m s
 -- why no set is made over these trials
 abbrev pub plot_refusal : List Trial → Option Refusal
 plot_refusal ts = first_fault (check_on UnfitTrials (cond (trials_fit ts) None (Some 0)) ∷ [])
+
+-- what taking trials in for a set answers: these trials, or the refusal
+abbrev pub Admits : List Trial → Result FitTrials Refusal → Type 0
+Admits ts (Ok f) = (plot_refusal ts ≡ None) × (f.trials.now ≡ ts)
+Admits ts (Err e) = plot_refusal ts ≡ Some e
 
 -- what a set keeps for a material
 abbrev pub kept_for : PlotSet → Material → ByWater

@@ -1,5 +1,7 @@
 -- The sites, and their letters.
-use Rattle.std.specs.Prelude.{◌≡◌, ℕ, List, [], ◌∷◌, ◌++◌, Some, None, Option, ◌≢◌}
+use Rattle.std.specs.Prelude.{◌≡◌, ℕ, List, [], ◌∷◌, ◌++◌, Some, None, Ok, Err, Option, Result, ◌≢◌}
+use Rattle.factors.specs.declared.ground.Ground.{Ground}
+use Rattle.factors.specs.declared.ground.Ground.TheVariants.{UnknownSite}
 use Rattle.factors.specs.declared.site.Site.{Site}
 use Rattle.factors.specs.declared.site.Water.{Water}
 use Rattle.factors.specs.declared.site.Water.TheVariants.{Flooded, NotFlooded}
@@ -68,7 +70,7 @@ site_of (w ∷ c ∷ []) = None
 site_of (w ∷ c ∷ l ∷ []) = with_marks (water_of w) (climate_of c) (leaching_of l)
 site_of (w ∷ c ∷ l ∷ x ∷ xs) = None
 
--- the law of reading a site: these are its letters, or no site has these letters
-abbrev pub Spelt : List ℕ → Option Site → Type 0
-Spelt letters None = (s : Site) → letters ≢ site_letters s
-Spelt letters (Some s) = letters ≡ site_letters s
+-- what reading letters answers: the site with these letters, or the ground of an unknown site, where no site has them
+abbrev pub SiteRead : List ℕ → Result Site Ground → Type 0
+SiteRead letters (Ok s) = (site_of letters ≡ Some s) × (letters ≡ site_letters s)
+SiteRead letters (Err g) = (site_of letters ≡ None) × ((s : Site) → letters ≢ site_letters s) × (g ≡ UnknownSite)

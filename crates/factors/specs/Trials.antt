@@ -1,5 +1,6 @@
 -- Plot trials: which are fit, and what they add up to.
-use Rattle.std.specs.Prelude.{ℕ, Bool, true, ◌&&◌, List, [], ◌∷◌, length, sum_by, filter, ◌==◌, nat_le}
+use Rattle.std.specs.Prelude.{ℕ, Bool, ◌&&◌, List, length, sum_by, filter, ◌==◌, nat_le}
+use Rattle.std.specs.List.{list_all}
 use Rattle.factors.specs.declared.material.Material.{Material}
 use Rattle.factors.specs.declared.site.Water.{Water}
 use Rattle.factors.specs.declared.trial.Trial.{Trial}
@@ -12,8 +13,7 @@ trial_fits t = nat_le 1 t.applied && nat_le t.applied 1000000 && nat_le t.treate
 
 -- each trial fits
 abbrev pub each_fits : List Trial → Bool
-each_fits [] = true
-each_fits (t ∷ ts) = trial_fits t && each_fits ts
+each_fits ts = list_all trial_fits ts
 
 -- there are at most 64, and each fits
 abbrev pub trials_fit : List Trial → Bool

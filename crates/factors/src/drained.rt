@@ -1,7 +1,11 @@
 // Drained organic soils.
-ghost use Rattle.std.specs.Prelude.{◌≡◌};
-ghost use Rattle.std.specs.List.{ContainsAt};
-ghost use Rattle.factors.specs.Drained.{all_classes, class_number};
+ghost use Rattle.std.specs.Prelude.{◌≡◌, Some};
+ghost use Rattle.factors.specs.Drained.{all_classes, class_number, class_name, ClassRead};
+ghost use Rattle.factors.specs.Whole.{has_class};
+
+use super::ground::Ground;
+use super::listed::Listed;
+use std::fmt;
 
 // The classes that a drained factor depends on.
 #[derive(Clone, Copy)]
@@ -13,12 +17,11 @@ pub enum DrainedClass {
     TropicalForest,
 }
 
-impl DrainedClass {
-    // Each class, in the order of the numbers.
-    pub fn all() -> [DrainedClass; 5]
-        ensures list { result ≡ all_classes }
-        ensures each { (c : DrainedClass) → ContainsAt result c }
-    {
+// In the order of the numbers.
+impl Listed<5> for DrainedClass {
+    ghost list = { all_classes };
+
+    fn all() -> [DrainedClass; 5] {
         [
             DrainedClass::TemperateCropGrass,
             DrainedClass::TropicalCropGrass,
@@ -28,9 +31,45 @@ impl DrainedClass {
         ]
     }
 
-    pub fn number(self) -> u8
-        ensures { result ≡ class_number self }
-    {
-        self as u8
+    ghost each = { has_class };
+}
+
+impl From<DrainedClass> for u8 {
+    ghost from_gives = { λ c n. n ≡ class_number c };
+
+    fn from(class: DrainedClass) -> u8 {
+        class as u8
+    }
+}
+
+// The class with this number.
+impl TryFrom<u32> for DrainedClass {
+    type Error = Ground;
+
+    ghost try_from_gives = { ClassRead };
+
+    fn try_from(number: u32) -> Result<DrainedClass, Ground> {
+        match number {
+            1 => Ok(DrainedClass::TemperateCropGrass),
+            2 => Ok(DrainedClass::TropicalCropGrass),
+            3 => Ok(DrainedClass::TemperateForestRich),
+            4 => Ok(DrainedClass::TemperateForestPoor),
+            5 => Ok(DrainedClass::TropicalForest),
+            _ => Err(Ground::FieldOutOfRange),
+        }
+    }
+}
+
+impl fmt::Display for DrainedClass {
+    ghost output = { λ c. Some (class_name c) };
+
+    fn fmt<W: fmt::Write>(&self, f: &mut fmt::Formatter<W>) -> fmt::Result {
+        f.write_str(match self {
+            DrainedClass::TemperateCropGrass => "temperate crop and grass",
+            DrainedClass::TropicalCropGrass => "tropical crop and grass",
+            DrainedClass::TemperateForestRich => "temperate forest, rich",
+            DrainedClass::TemperateForestPoor => "temperate forest, poor",
+            DrainedClass::TropicalForest => "tropical forest",
+        })
     }
 }

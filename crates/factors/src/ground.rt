@@ -1,6 +1,6 @@
 // Why a call is refused.
 ghost use Rattle.std.specs.Prelude.{◌≡◌};
-ghost use Rattle.factors.specs.Grounds.{ground_number};
+ghost use Rattle.factors.specs.Grounds.{ground_number, refusal_on};
 
 // The grounds, by their numbers.
 #[derive(Clone, Copy, PartialEq, Eq, Debug)]
@@ -34,17 +34,29 @@ pub enum Ground {
     UnfitTrials,
 }
 
-impl Ground {
-    pub fn number(self) -> u8
-        ensures { result ≡ ground_number self }
-    {
-        self as u8
-    }
-}
-
-// The ground, and the place from 1 of the field that it is about, or 0 for the whole of what was given.
+// The ground, and the place from 1 of the field that it is about, or 0 for the whole of what was given; a refused line prints this number.
 #[derive(Clone, Copy, PartialEq, Eq, Debug)]
 pub struct Refusal {
     pub ground: Ground,
     pub field: u8,
+}
+
+impl Ground {
+    // The refusal on this ground that names this field.
+    pub fn at(self, field: u8) -> Refusal
+        ensures { result ≡ refusal_on self field }
+    {
+        Refusal {
+            ground: self,
+            field,
+        }
+    }
+}
+
+impl From<Ground> for u8 {
+    ghost from_gives = { λ g n. n ≡ ground_number g };
+
+    fn from(ground: Ground) -> u8 {
+        ground as u8
+    }
 }

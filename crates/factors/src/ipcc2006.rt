@@ -16,7 +16,7 @@ const RUNOFF: u16 = 75;
 #[derive(Clone, Copy)]
 pub struct Ipcc2006;
 
-// The direct factor, which depends on no other mark of the site.
+// The direct factor, which depends on no other mark of the site. Material and mark are two parameters wherever both are taken: a type for the pair would be taken apart again in each clause.
 pub(crate) fn direct_by_water(material: Material, water: Water) -> u16
     ensures { result ≡ direct2006 material water }
 {
@@ -31,15 +31,11 @@ pub(crate) fn direct_by_water(material: Material, water: Water) -> u16
 impl FactorSet for Ipcc2006 {
     const EDITION: u16 = 2006;
 
-    ghost edition = { 2006 };
+    ghost EDITION = { 2006 };
 
     ghost table = { λ _. table2006 };
 
     ghost lawful = { Prim.search rules };
-
-    fn edition_year() -> u16 {
-        Self::EDITION
-    }
 
     fn direct(&self, material: Material, site: Site) -> u16 {
         direct_by_water(material, site.water)

@@ -3,8 +3,10 @@
 
 mod by_water;
 mod drained;
+mod fit_trials;
 mod ground;
 mod ipcc2006;
+mod listed;
 mod material;
 mod plot;
 mod set;
@@ -14,6 +16,7 @@ mod trial;
 pub use drained::DrainedClass;
 pub use ground::{Ground, Refusal};
 pub use ipcc2006::Ipcc2006;
+pub use listed::Listed;
 pub use material::{CarbonMaterial, Material};
 pub use plot::PlotSet;
 pub use set::FactorSet;

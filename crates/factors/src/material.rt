@@ -1,7 +1,10 @@
 // What brings nitrogen or carbon to the land.
-ghost use Rattle.std.specs.Prelude.{◌≡◌};
-ghost use Rattle.std.specs.List.{ContainsAt};
-ghost use Rattle.factors.specs.Materials.{all_materials, all_carbon_materials, material_number};
+ghost use Rattle.std.specs.Prelude.{◌≡◌, Some};
+ghost use Rattle.factors.specs.Materials.{all_materials, all_carbon_materials, material_number, material_name, carbon_name};
+ghost use Rattle.factors.specs.Whole.{has_material, has_carbon_material};
+
+use super::listed::Listed;
+use std::fmt;
 
 // A nitrogen material.
 #[derive(Clone, Copy, PartialEq, Eq)]
@@ -20,12 +23,11 @@ pub enum Material {
     SheepAndOthers,
 }
 
-impl Material {
-    // Each material, in the order of the numbers.
-    pub fn all() -> [Material; 6]
-        ensures list { result ≡ all_materials }
-        ensures each { (m : Material) → ContainsAt result m }
-    {
+// In the order of the numbers.
+impl Listed<6> for Material {
+    ghost list = { all_materials };
+
+    fn all() -> [Material; 6] {
         [
             Material::Synthetic,
             Material::Organic,
@@ -36,10 +38,29 @@ impl Material {
         ]
     }
 
-    pub fn number(self) -> u8
-        ensures { result ≡ material_number self }
-    {
-        self as u8
+    ghost each = { has_material };
+}
+
+impl From<Material> for u8 {
+    ghost from_gives = { λ m n. n ≡ material_number m };
+
+    fn from(material: Material) -> u8 {
+        material as u8
+    }
+}
+
+impl fmt::Display for Material {
+    ghost output = { λ m. Some (material_name m) };
+
+    fn fmt<W: fmt::Write>(&self, f: &mut fmt::Formatter<W>) -> fmt::Result {
+        f.write_str(match self {
+            Material::Synthetic => "synthetic",
+            Material::Organic => "organic",
+            Material::Residue => "residue",
+            Material::Mineralised => "mineralised",
+            Material::CattlePoultryPigs => "grazing cattle, poultry, pigs",
+            Material::SheepAndOthers => "grazing sheep and others",
+        })
     }
 }
 
@@ -51,15 +72,28 @@ pub enum CarbonMaterial {
     Urea,
 }
 
-impl CarbonMaterial {
-    pub fn all() -> [CarbonMaterial; 3]
-        ensures list { result ≡ all_carbon_materials }
-        ensures each { (m : CarbonMaterial) → ContainsAt result m }
-    {
+impl Listed<3> for CarbonMaterial {
+    ghost list = { all_carbon_materials };
+
+    fn all() -> [CarbonMaterial; 3] {
         [
             CarbonMaterial::Limestone,
             CarbonMaterial::Dolomite,
             CarbonMaterial::Urea,
         ]
+    }
+
+    ghost each = { has_carbon_material };
+}
+
+impl fmt::Display for CarbonMaterial {
+    ghost output = { λ m. Some (carbon_name m) };
+
+    fn fmt<W: fmt::Write>(&self, f: &mut fmt::Formatter<W>) -> fmt::Result {
+        f.write_str(match self {
+            CarbonMaterial::Limestone => "limestone",
+            CarbonMaterial::Dolomite => "dolomite",
+            CarbonMaterial::Urea => "urea",
+        })
     }
 }

@@ -6,17 +6,14 @@ use super::drained::DrainedClass;
 use super::material::{CarbonMaterial, Material};
 use super::site::Site;
 
+// The questions take what the rules ask them of, a material and a site or one of the two; the site's marks are a struct already.
 pub trait FactorSet {
-    // the year of the guidelines that the set follows; 0 where it follows none
+    // the year of the guidelines that the set follows; 0, as it is printed, where it follows none
     const EDITION: u16;
 
-    ghost edition: { ℕ };
+    ghost EDITION: { ℕ };
 
     ghost table: { Self → Table };
-
-    // The edition year, for code that has only the bound.
-    fn edition_year() -> u16
-        ensures { result ≡ edition };
 
     // Ten-thousandths of the nitrogen that leave as nitrous oxide from where it is put.
     fn direct(&self, material: Material, site: Site) -> u16
@@ -46,7 +43,7 @@ pub trait FactorSet {
     fn carbon(&self, material: CarbonMaterial) -> u16
         ensures { result ≡ (table self.now).carbon material };
 
-    // Milligrams volatilised, leached and kept, of a mass of nitrogen in grams.
+    // Milligrams volatilised, leached and kept, of a mass of nitrogen in grams; a triple in this order by the rules.
     fn partition(&self, material: Material, site: Site, grams: u32) -> (u64, u64, u64)
         ensures parts { result ≡ partitioned (table self.now) material site grams }
         ensures whole { result.0 + result.1 + result.2 ≡ 1000 * grams }

@@ -1,8 +1,12 @@
 // Where nitrogen is put: the three marks that factors depend on.
 ghost use Rattle.std.specs.Prelude.{◌≡◌, Some};
-ghost use Rattle.std.specs.List.{ContainsAt};
-ghost use Rattle.factors.specs.Site.{water_letter, climate_letter, leaching_letter, site_letters, sites_with, all_sites, site_of, Spelt};
+ghost use Rattle.std.specs.Option.{ok_or};
+ghost use Rattle.factors.specs.Site.{water_letter, climate_letter, leaching_letter, water_of, climate_of, leaching_of, site_letters, sites_with, all_sites, SiteRead};
+ghost use Rattle.factors.specs.declared.ground.Ground.TheVariants.{UnknownSite};
+ghost use Rattle.factors.specs.Whole.{has_site};
 
+use super::ground::Ground;
+use super::listed::Listed;
 use std::fmt;
 
 // Flooded rice, or not.
@@ -32,35 +36,77 @@ pub struct Site {
     pub leaching: Leaching,
 }
 
-impl Water {
-    fn letter(self) -> char
-        ensures { result ≡ water_letter self }
-    {
-        match self {
+impl From<Water> for char {
+    ghost from_gives = { λ w c. c ≡ water_letter w };
+
+    fn from(water: Water) -> char {
+        match water {
             Water::Flooded => 'R',
             Water::NotFlooded => 'U',
         }
     }
 }
 
-impl Climate {
-    fn letter(self) -> char
-        ensures { result ≡ climate_letter self }
-    {
-        match self {
+impl From<Climate> for char {
+    ghost from_gives = { λ k c. c ≡ climate_letter k };
+
+    fn from(climate: Climate) -> char {
+        match climate {
             Climate::Wet => 'W',
             Climate::Dry => 'D',
         }
     }
 }
 
-impl Leaching {
-    fn letter(self) -> char
-        ensures { result ≡ leaching_letter self }
-    {
-        match self {
+impl From<Leaching> for char {
+    ghost from_gives = { λ l c. c ≡ leaching_letter l };
+
+    fn from(leaching: Leaching) -> char {
+        match leaching {
             Leaching::Occurs => 'L',
             Leaching::Absent => 'N',
+        }
+    }
+}
+
+impl TryFrom<char> for Water {
+    type Error = Ground;
+
+    ghost try_from_gives = { λ c r. r ≡ ok_or (water_of c) UnknownSite };
+
+    fn try_from(letter: char) -> Result<Water, Ground> {
+        match letter {
+            'R' => Ok(Water::Flooded),
+            'U' => Ok(Water::NotFlooded),
+            _ => Err(Ground::UnknownSite),
+        }
+    }
+}
+
+impl TryFrom<char> for Climate {
+    type Error = Ground;
+
+    ghost try_from_gives = { λ c r. r ≡ ok_or (climate_of c) UnknownSite };
+
+    fn try_from(letter: char) -> Result<Climate, Ground> {
+        match letter {
+            'W' => Ok(Climate::Wet),
+            'D' => Ok(Climate::Dry),
+            _ => Err(Ground::UnknownSite),
+        }
+    }
+}
+
+impl TryFrom<char> for Leaching {
+    type Error = Ground;
+
+    ghost try_from_gives = { λ c r. r ≡ ok_or (leaching_of c) UnknownSite };
+
+    fn try_from(letter: char) -> Result<Leaching, Ground> {
+        match letter {
+            'L' => Ok(Leaching::Occurs),
+            'N' => Ok(Leaching::Absent),
+            _ => Err(Ground::UnknownSite),
         }
     }
 }
@@ -93,52 +139,45 @@ impl Site {
             },
         ]
     }
+}
 
-    // Each site: U before R, W before D, L before N.
-    pub fn all() -> [Site; 8]
-        ensures list { result ≡ all_sites }
-        ensures each { (s : Site) → ContainsAt result s }
-    {
+// U before R, W before D, L before N.
+impl Listed<8> for Site {
+    ghost list = { all_sites };
+
+    fn all() -> [Site; 8] {
         let [a, b, c, d] = Site::with_water(Water::NotFlooded);
         let [e, f, g, h] = Site::with_water(Water::Flooded);
         [a, b, c, d, e, f, g, h]
     }
 
-    pub fn letters(self) -> [char; 3]
-        ensures { result ≡ site_letters self }
-    {
+    ghost each = { has_site };
+}
+
+impl From<Site> for [char; 3] {
+    ghost from_gives = { λ s letters. letters ≡ site_letters s };
+
+    fn from(site: Site) -> [char; 3] {
         [
-            self.water.letter(),
-            self.climate.letter(),
-            self.leaching.letter(),
+            char::from(site.water),
+            char::from(site.climate),
+            char::from(site.leaching),
         ]
     }
+}
 
-    // The site with these letters.
-    pub fn from_letters(letters: [char; 3]) -> Option<Site>
-        ensures site { result ≡ site_of letters }
-        ensures law { Spelt letters result }
-    {
-        let [first, second, third] = letters;
-        let water = match first {
-            'R' => Water::Flooded,
-            'U' => Water::NotFlooded,
-            _ => return None,
-        };
-        let climate = match second {
-            'W' => Climate::Wet,
-            'D' => Climate::Dry,
-            _ => return None,
-        };
-        let leaching = match third {
-            'L' => Leaching::Occurs,
-            'N' => Leaching::Absent,
-            _ => return None,
-        };
-        Some(Site {
-            water,
-            climate,
-            leaching,
+// The site with these letters.
+impl TryFrom<[char; 3]> for Site {
+    type Error = Ground;
+
+    ghost try_from_gives = { SiteRead };
+
+    fn try_from(letters: [char; 3]) -> Result<Site, Ground> {
+        let [water, climate, leaching] = letters;
+        Ok(Site {
+            water: Water::try_from(water)?,
+            climate: Climate::try_from(climate)?,
+            leaching: Leaching::try_from(leaching)?,
         })
     }
 }
@@ -147,7 +186,7 @@ impl fmt::Display for Site {
     ghost output = { λ s. Some (site_letters s) };
 
     fn fmt<W: fmt::Write>(&self, f: &mut fmt::Formatter<W>) -> fmt::Result {
-        let [water, climate, leaching] = self.letters();
+        let [water, climate, leaching] = <[char; 3]>::from(*self);
         write!(f, "{water}{climate}{leaching}")
     }
 }

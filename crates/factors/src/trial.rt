@@ -1,6 +1,6 @@
 // Plot trials: nitrous oxide measured on a treated and on a control plot.
 ghost use Rattle.std.specs.Prelude.{◌≡◌};
-ghost use Rattle.factors.specs.Trials.{trial_fits, trials_fit, is_of};
+ghost use Rattle.factors.specs.Trials.{trial_fits, each_fits, trials_fit, is_of};
 
 use super::material::Material;
 use super::site::Water;
@@ -28,8 +28,7 @@ impl Trial {
     fn fits(&self) -> bool
         ensures { result ≡ trial_fits self.now }
     {
-        1 <= self.applied
-            && self.applied <= MOST_APPLIED
+        (1..=MOST_APPLIED).contains(&self.applied)
             && self.treated <= MOST_MEASURED
             && self.control <= MOST_MEASURED
     }
@@ -42,17 +41,16 @@ impl Trial {
     }
 }
 
+// Apart, since the check finds the answer of `all` where it is the whole result.
+fn each_fits(trials: &[Trial]) -> bool
+    ensures { result ≡ each_fits trials.now }
+{
+    trials.iter().all(|trial| trial.fits())
+}
+
 // Whether a plot set can be made over these.
 pub(crate) fn all_fit(trials: &[Trial]) -> bool
     ensures { result ≡ trials_fit trials.now }
 {
-    if trials.len() > MOST_TRIALS {
-        return false;
-    }
-    for trial in trials {
-        if !trial.fits() {
-            return false;
-        }
-    }
-    true
+    trials.len() <= MOST_TRIALS && each_fits(trials)
 }

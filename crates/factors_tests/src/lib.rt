@@ -4,8 +4,8 @@
 #[cfg(test)]
 mod tests {
     use factors::{
-        CarbonMaterial, Climate, DrainedClass, FactorSet, Ground, Ipcc2006, Leaching, Material,
-        PlotSet, Refusal, Site, Trial, Water,
+        CarbonMaterial, Climate, DrainedClass, FactorSet, Ground, Ipcc2006, Leaching, Listed,
+        Material, PlotSet, Refusal, Site, Trial, Water,
     };
     use std::test::Fail;
 
@@ -39,10 +39,7 @@ mod tests {
     }
 
     fn unfit() -> Result<u16, Refusal> {
-        Err(Refusal {
-            ground: Ground::UnfitTrials,
-            field: 0,
-        })
+        Err(Ground::UnfitTrials.at(0))
     }
 
     #[test]
@@ -180,12 +177,16 @@ mod tests {
         );
     }
 
-    // A constant and what the method answers, at each set.
+    // As code over any set reads it.
+    fn edition<F: FactorSet>() -> u16 {
+        F::EDITION
+    }
+
     #[test]
     fn editions(rt: HostRuntime) {
         assert_eq!(rt; Ipcc2006::EDITION, 2006);
-        assert_eq!(rt; <Ipcc2006 as FactorSet>::edition_year(), 2006);
+        assert_eq!(rt; edition::<Ipcc2006>(), 2006);
         assert_eq!(rt; PlotSet::EDITION, 0);
-        assert_eq!(rt; <PlotSet as FactorSet>::edition_year(), 0);
+        assert_eq!(rt; edition::<PlotSet>(), 0);
     }
 }

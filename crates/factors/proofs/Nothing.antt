@@ -1,5 +1,0 @@
--- Nothing is no value.
-use Rattle.std.proofs.Common.{◌≡◌, ℕ, Some, None, arith}
-
-pub none_some : {X Y : Type 0} (x : X) → None ≡ Some x → Y
-none_some x e = let z : ◌≡◌ {A = ℕ} 0 1 = cc in let never : ⊥ = omega arith in elim never [ ]
