@@ -5,11 +5,10 @@ use Rattle.factors.specs.declared.drained.DrainedClass.{DrainedClass}
 use Rattle.factors.specs.declared.material.CarbonMaterial.{CarbonMaterial}
 use Rattle.factors.specs.declared.material.Material.{Material}
 use Rattle.factors.specs.declared.site.Site.{Site}
-use Rattle.factors.specs.Drained.{all_classes, class_number}
-use Rattle.factors.specs.Materials.{all_materials, all_carbon_materials, material_number}
+use Rattle.factors.specs.Drained.{all_classes, class_number, class_name}
+use Rattle.factors.specs.Materials.{all_materials, all_carbon_materials, material_number, material_name, carbon_name}
 use Rattle.factors.specs.Site.{all_sites, site_letters}
 use Rattle.factors.specs.Table.{Table}
-use Rattle.factorsheet.specs.Names.{material_name, class_name, carbon_name}
 
 -- fields parted by tabs and closed by a line feed
 abbrev pub tabbed : List ℕ → List (List ℕ) → List ℕ

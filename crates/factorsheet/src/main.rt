@@ -1,12 +1,11 @@
 // Prints the whole factor sheet of the 2006 set, and then of a plot set over a few trials.
 #![tactic(auto)]
 
-mod names;
 mod rows;
 mod sheet;
 
 use factors::{Ipcc2006, Material, PlotSet, Trial, Water};
-use sheet::factor_sheet;
+use sheet::FactorSheet;
 
 // Two trials of synthetic fertiliser on land that is not flooded, one on flooded rice, and one of organic fertiliser whose treated plot gave off less than its control plot.
 const TRIALS: [Trial; 4] = [
@@ -41,12 +40,11 @@ const TRIALS: [Trial; 4] = [
 ];
 
 fn main(rt: HostRuntime) -> anyhow::Result<()> {
-    let heap = rt.alloc();
-    rt.print(factor_sheet(heap, &Ipcc2006)?)?;
+    rt.print(FactorSheet(&Ipcc2006))?;
     match PlotSet::over(&TRIALS) {
-        Ok(set) => rt.print(factor_sheet(heap, &set)?)?,
+        Ok(set) => rt.print(FactorSheet(&set))?,
         Err(refusal) => {
-            let ground = refusal.ground.number();
+            let ground = u8::from(refusal.ground);
             println!(rt; "no plot set: ground {ground}")?
         }
     }

@@ -1,49 +1,48 @@
 // The rows of a factor sheet.
-ghost use Rattle.std.specs.Prelude.{◌≡◌, ℕ, List, IfOk, string_bytes};
+ghost use Rattle.std.specs.Prelude.{ℕ, List};
+ghost use Rattle.std.specs.Fmt.{WritesOnOk};
 ghost use Rattle.factors.specs.Table.{Table};
 ghost use Rattle.factorsheet.specs.Sheet.{nitrogen_row, nitrogen_rows, redeposited_row, drained_row, carbon_row};
 
-use super::names::{carbon_name, class_name, material_name};
-use factors::{CarbonMaterial, DrainedClass, FactorSet, Material, Site};
-use std::alloc::{AllocError, Global};
+use factors::{CarbonMaterial, DrainedClass, FactorSet, Listed, Material, Site};
+use std::fmt;
+use std::fmt::Formatter;
 
-// What a row, or a block of rows, is about.
+// What a row, or several rows in turn, are about. A method, and no `Display`: a block over any kind of row would need a bound that says which text each displays.
 pub trait Row {
     ghost row: { Table → Self → List ℕ };
 
-    // The text, with a set's answers.
-    fn filled<F: FactorSet>(&self, heap: Global, set: &F) -> Result<String, AllocError>
-        ensures { IfOk result (λ t. string_bytes t ≡ row (F.FactorSet.table set.now) self.now) };
+    // Writes it with a set's answers.
+    fn write_row<F: FactorSet, W: fmt::Write>(&self, set: &F, f: &mut Formatter<W>) -> fmt::Result
+        ensures { WritesOnOk W.write_str_gives f.old result (row (F.table set.now) self.now) f.new };
 }
 
-fn nitrogen_row<F: FactorSet>(
-    heap: Global,
-    set: &F,
-    material: Material,
-    site: Site,
-) -> Result<String, AllocError>
-    ensures { IfOk result (λ t. string_bytes t ≡ nitrogen_row (F.FactorSet.table set.now) material site) }
-{
-    let number = material.number();
-    let name = material_name(material);
-    let direct = set.direct(material, site);
-    let volatilised = set.volatilised(material, site);
-    let leached = set.leached(material, site);
-    format!(in heap; "{number}\t{name}\t{site}\t{direct}\t{volatilised}\t{leached}\n")
+// A material's factors at a site.
+impl Row for (Material, Site) {
+    ghost row = { λ t (material, site). nitrogen_row t material site };
+
+    fn write_row<F: FactorSet, W: fmt::Write>(&self, set: &F, f: &mut Formatter<W>) -> fmt::Result {
+        let (material, site) = *self;
+        let number = u8::from(material);
+        let direct = set.direct(material, site);
+        let volatilised = set.volatilised(material, site);
+        let leached = set.leached(material, site);
+        writeln!(
+            f,
+            "{number}\t{material}\t{site}\t{direct}\t{volatilised}\t{leached}"
+        )
+    }
 }
 
 // A material's factors, site by site.
 impl Row for Material {
     ghost row = { nitrogen_rows };
 
-    fn filled<F: FactorSet>(&self, heap: Global, set: &F) -> Result<String, AllocError> {
-        let mut text = String::new(heap);
-        let sites = Site::all();
-        for site in &sites {
-            let line = nitrogen_row(heap, set, *self, *site)?;
-            text.push_str(line.as_str())?;
+    fn write_row<F: FactorSet, W: fmt::Write>(&self, set: &F, f: &mut Formatter<W>) -> fmt::Result {
+        for site in Site::all() {
+            (*self, site).write_row(set, f)?;
         }
-        Ok(text)
+        Ok(())
     }
 }
 
@@ -51,30 +50,27 @@ impl Row for Material {
 impl Row for Site {
     ghost row = { redeposited_row };
 
-    fn filled<F: FactorSet>(&self, heap: Global, set: &F) -> Result<String, AllocError> {
-        let site = *self;
-        let redeposited = set.redeposited(site);
-        format!(in heap; "{site}\t{redeposited}\n")
+    fn write_row<F: FactorSet, W: fmt::Write>(&self, set: &F, f: &mut Formatter<W>) -> fmt::Result {
+        let redeposited = set.redeposited(*self);
+        writeln!(f, "{self}\t{redeposited}")
     }
 }
 
 impl Row for DrainedClass {
     ghost row = { drained_row };
 
-    fn filled<F: FactorSet>(&self, heap: Global, set: &F) -> Result<String, AllocError> {
-        let number = self.number();
-        let name = class_name(*self);
+    fn write_row<F: FactorSet, W: fmt::Write>(&self, set: &F, f: &mut Formatter<W>) -> fmt::Result {
+        let number = u8::from(*self);
         let drained = set.drained(*self);
-        format!(in heap; "{number}\t{name}\t{drained}\n")
+        writeln!(f, "{number}\t{self}\t{drained}")
     }
 }
 
 impl Row for CarbonMaterial {
     ghost row = { carbon_row };
 
-    fn filled<F: FactorSet>(&self, heap: Global, set: &F) -> Result<String, AllocError> {
-        let name = carbon_name(*self);
+    fn write_row<F: FactorSet, W: fmt::Write>(&self, set: &F, f: &mut Formatter<W>) -> fmt::Result {
         let carbon = set.carbon(*self);
-        format!(in heap; "{name}\t{carbon}\n")
+        writeln!(f, "{self}\t{carbon}")
     }
 }

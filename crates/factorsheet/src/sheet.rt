@@ -1,10 +1,12 @@
 // A whole factor sheet.
-ghost use Rattle.std.specs.Prelude.{◌≡◌, ◌++◌, IfOk, string_bytes, OnOk};
-ghost use Rattle.factorsheet.specs.Sheet.{block, sheet_front, sheet_text};
+ghost use Rattle.std.specs.Prelude.{Some};
+ghost use Rattle.std.specs.Fmt.{WritesOnOk};
+ghost use Rattle.factorsheet.specs.Sheet.{block, sheet_text};
 
 use super::rows::Row;
-use factors::{CarbonMaterial, DrainedClass, FactorSet, Material, Site};
-use std::alloc::{AllocError, Global};
+use factors::{CarbonMaterial, DrainedClass, FactorSet, Listed, Material, Site};
+use std::fmt;
+use std::fmt::{Display, Formatter};
 
 const NITROGEN: &str = "number\tmaterial\tsite\tdirect /10000\tvolatilised /1000\tleached /1000\n";
 
@@ -14,41 +16,40 @@ const DRAINED: &str = "class\tdrained soil\tg N2O-N per are\n";
 
 const CARBON: &str = "material\tcarbon /1000\n";
 
-// Adds a heading and the rows under it.
-fn push_block<F: FactorSet, R: Row>(
-    heap: Global,
-    text: &mut String,
-    set: &F,
-    heading: &str,
-    rows: &[R],
-) -> Result<(), AllocError>
-    ensures { OnOk result (string_bytes text.new ≡ string_bytes text.old ++ block heading.now (R.Row.row (F.FactorSet.table set.now)) rows.now) }
-{
-    text.push_str(heading)?;
-    for row in rows {
-        let line = row.filled(heap, set)?;
-        text.push_str(line.as_str())?;
+// Shows every factor of a set.
+#[derive(Drop)]
+pub struct FactorSheet<'a, F>(pub &'a F);
+
+impl<F: FactorSet> FactorSheet<'_, F> {
+    // Writes a heading and the rows under it; a method for the reason that `Row` gives.
+    fn write_block<R: Row, W: fmt::Write>(
+        &self,
+        heading: &str,
+        rows: &[R],
+        f: &mut Formatter<W>,
+    ) -> fmt::Result
+        ensures { WritesOnOk W.write_str_gives f.old result
+            (block heading.now (R.Row.row (F.table self.now.0.now)) rows.now) f.new }
+    {
+        f.write_str(heading)?;
+        for row in rows {
+            row.write_row(self.0, f)?;
+        }
+        Ok(())
     }
-    Ok(())
 }
 
-// The edition, and the factor that depends on nothing.
-fn front<F: FactorSet>(heap: Global, set: &F) -> Result<String, AllocError>
-    ensures { IfOk result (λ t. string_bytes t ≡ sheet_front F.FactorSet.edition (F.FactorSet.table set.now)) }
-{
-    let edition = F::edition_year();
-    let runoff = set.runoff();
-    format!(in heap; "edition\t{edition}\nrunoff /10000\t{runoff}\n")
-}
+impl<F: FactorSet> Display for FactorSheet<'_, F> {
+    ghost output = { λ sheet. Some (sheet_text F.EDITION (F.table sheet.0.now)) };
 
-// The whole sheet of a set.
-pub fn factor_sheet<F: FactorSet>(heap: Global, set: &F) -> Result<String, AllocError>
-    ensures { IfOk result (λ t. string_bytes t ≡ sheet_text F.FactorSet.edition (F.FactorSet.table set.now)) }
-{
-    let mut text = front(heap, set)?;
-    push_block(heap, &mut text, set, NITROGEN, &Material::all())?;
-    push_block(heap, &mut text, set, REDEPOSITED, &Site::all())?;
-    push_block(heap, &mut text, set, DRAINED, &DrainedClass::all())?;
-    push_block(heap, &mut text, set, CARBON, &CarbonMaterial::all())?;
-    Ok(text)
+    fn fmt<W: fmt::Write>(&self, f: &mut Formatter<W>) -> fmt::Result {
+        let edition = F::EDITION;
+        let runoff = self.0.runoff();
+        writeln!(f, "edition\t{edition}")?;
+        writeln!(f, "runoff /10000\t{runoff}")?;
+        self.write_block(NITROGEN, &Material::all(), f)?;
+        self.write_block(REDEPOSITED, &Site::all(), f)?;
+        self.write_block(DRAINED, &DrainedClass::all(), f)?;
+        self.write_block(CARBON, &CarbonMaterial::all(), f)
+    }
 }
