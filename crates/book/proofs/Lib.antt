@@ -1,5 +1,3 @@
 mod Found
-mod InRanges
-mod Outside
 mod Rounding
 mod Judging

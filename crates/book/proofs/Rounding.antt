@@ -1,76 +1,68 @@
 -- Whole grams are at most half a gram from exact grams.
-use Rattle.std.proofs.Common.{◌≡◌, ℕ, zero, suc, ◌+◌, ◌*◌, ◌/◌, ◌<◌, ◌≤◌, ◌⊎◌, List, [], ◌∷◌, Some, None, Option, sym, refl, ap, ◌∙◌, subst, inl, inr, mul-le-mul_right, mul_assoc, eq-or-lt_of_le, div-mul-le_self, arith}
+use Rattle.std.proofs.Common.{◌≡◌, ℕ, zero, suc, ◌+◌, ◌*◌, ◌/◌, ◌<◌, ◌≤◌, List, [], ◌∷◌, length, get_or, fold, Contains, Some, None, Option, refl, sym, ap, ◌∙◌, subst, mul-le-mul_right, mul_assoc, div-mul-le_self, arith}
 use Prim.Native.Nat.{◌∣◌}
-use native.Mathlib.Nat.{dvd-mul_right, dvd-mul_left_of_dvd, mul-dvd-mul, div-mul_cancel, lt-div-mul-add}
+use native.Mathlib.Nat.{dvd_refl, dvd-mul_left, dvd-mul_right, dvd-mul_right_of_dvd, mul-dvd-mul, div-mul_cancel, lt-div-mul-add}
+use Rattle.std.proofs.lemmas.Bool.Decides.{nat_tests}
+use Rattle.std.proofs.lemmas.List.FromFn.{get_or-range_with_len}
 use Rattle.book.specs.declared.crops.CropRow.{CropRow}
 use Rattle.book.specs.declared.entry.Activity.{Activity}
 use Rattle.book.specs.declared.entry.Activity.TheVariants.{Synthetic, Manure, Sludge, Grazing, Residues, Mineralised, Drained, Lime, Urea}
 use Rattle.book.specs.declared.entry.CropResidues.{CropResidues}
-use Rattle.book.specs.Common.{down_from, divisors, product, common, exact_shared, Weighed}
+use Rattle.book.specs.Common.{divisors, common, exact_shared, Weighed}
 use Rattle.book.specs.Crops.{row_of}
 use Rattle.book.specs.Grams.{exact, residues_exact, grams_of}
 use Rattle.book.specs.Nearest.{nearest, Within, Nearest}
 use Rattle.book.specs.Ranges.{range_fault}
-use Rattle.book.proofs.InRanges.{activity_inside}
 
--- x is one of the list
-abbrev Among : ℕ → List ℕ → Type 0
-Among x [] = ⊥
-Among x (y ∷ ys) = (y ≡ x) ⊎ Among x ys
+still_divides : (x a : ℕ) (xs : List ℕ) → x ∣ a → x ∣ fold (λ a d. a * d) a xs
+still_divides x a [] h = h
+still_divides x a (y ∷ ys) h = still_divides x (a * y) ys (dvd-mul_right_of_dvd x h y)
 
-among_divides : (x : ℕ) (xs : List ℕ) → Among x xs → x ∣ product xs
-among_divides x [] z = elim z [ ]
-among_divides x (y ∷ ys) (inl e) = subst (λ (z : ℕ). x ∣ z * product ys) (sym e) (dvd-mul_right x (product ys))
-among_divides x (y ∷ ys) (inr later) = dvd-mul_left_of_dvd x (among_divides x ys later) y
+from_place : (x a : ℕ) (xs : List ℕ) (k : ℕ) → k < length xs → get_or xs k x ≡ x → x ∣ fold (λ a d. a * d) a xs
+from_place x a [] k low e = absurd (omega arith)
+from_place x a (y ∷ ys) zero low e = still_divides x (a * y) ys (subst (λ z. x ∣ a * z) (sym e) (dvd-mul_left x a))
+from_place x a (y ∷ ys) (suc k) low e = from_place x (a * y) ys k (omega arith) e
 
-among_down : (x n : ℕ) → 1 ≤ x → x ≤ n → Among x (down_from n)
-among_down x zero low high = let z : ⊥ = omega arith in elim z [ ]
-among_down x (suc n) low high = elim (eq-or-lt_of_le {n = x} {m = suc n} high) [
-  | inl e ↦ inl (sym e)
-  | inr less ↦ inr (among_down x n low (omega arith))
-]
+-- each member of a list divides the product, whatever the list
+member_divides : (x : ℕ) (xs : List ℕ) → Contains xs x → x ∣ fold (λ a d. a * d) 1 xs
+member_divides x xs among = from_place x 1 xs among.0 among.1 among.2
 
--- a denominator is a divisor that occurs times a power of ten that divides the greatest
-record Occurs (d : ℕ) : Type 0 where
-  ten : ℕ
-  divisor : ℕ
-  parted : d ≡ ten * divisor
-  ten_divides : ten ∣ 10000000000
-  positive : 1 ≤ d
-  among : Among divisor divisors
+years_occur : (n : ℕ) → 1 ≤ n → n ≤ 20 → Contains divisors n
+years_occur zero low high = absurd (omega arith)
+years_occur (suc k) low high = (suc k, omega arith, get_or-range_with_len 1 20 k (suc k) (omega arith) ∙ omega arith)
 
-whole : Occurs 1
-whole = record { ten = 1; divisor = 1; parted = refl; ten_divides = dvd-mul_right 1 10000000000; positive = omega arith; among = inr (among_down 1 20 (omega arith) (omega arith)) }
+-- a denominator that divides the common one
+abbrev Divides : ℕ → Type 0
+Divides d = (1 ≤ d) × (common / d * d ≡ common)
 
-thousandths : Occurs 1000
-thousandths = record { ten = 1000; divisor = 1; parted = refl; ten_divides = dvd-mul_right 1000 10000000; positive = omega arith; among = inr (among_down 1 20 (omega arith) (omega arith)) }
+-- so does a power of ten that is not above the highest, times a divisor that occurs
+divides_common : (ten d : ℕ) → ten ∣ 10000000000 → Contains divisors d → 1 ≤ ten * d → Divides (ten * d)
+unfolding common
+divides_common ten d tens among positive = (positive, div-mul_cancel (ten * d) (mul-dvd-mul ten d tens (member_divides d divisors among)))
 
-fifteenths : Occurs 15
-fifteenths = record { ten = 1; divisor = 15; parted = refl; ten_divides = dvd-mul_right 1 10000000000; positive = omega arith; among = inl refl }
+whole : Divides 1
+whole = divides_common 1 1 (dvd-mul_right 1 10000000000) (years_occur 1 (omega arith) (omega arith)) (omega arith)
 
-by_years : (row : Option CropRow) (left : CropResidues) → 1 ≤ left.years → left.years ≤ 20 → Occurs (residues_exact row left).denominator
-by_years None left low high = whole
-by_years (Some row) left low high = record {
-  ten = 10000000000;
-  divisor = left.years;
-  parted = refl;
-  ten_divides = dvd-mul_right 10000000000 1;
-  positive = omega arith;
-  among = inr (among_down left.years 20 low high);
-}
+thousandths : Divides 1000
+thousandths = divides_common 1000 1 (dvd-mul_right 1000 10000000) (years_occur 1 (omega arith) (omega arith)) (omega arith)
 
-occurs : (a : Activity) → range_fault a ≡ None → Occurs (exact a).denominator
-occurs (Synthetic mass content) h = whole
-occurs (Manure available feed fuel building) h = whole
-occurs (Sludge mass content) h = thousandths
-occurs (Grazing herd) h = thousandths
-occurs (Residues left) h =
-    let ranges = activity_inside (Residues left) h in
-    by_years (row_of left.crop) left (omega arith) (omega arith)
-occurs (Mineralised carbon) h = fifteenths
-occurs (Drained class area) h = whole
-occurs (Lime stone mass) h = whole
-occurs (Urea mass) h = whole
+fifteenths : Divides 15
+fifteenths = divides_common 1 15 (dvd-mul_right 1 10000000000) (0, omega arith, refl) (omega arith)
+
+by_row : (row : Option CropRow) (left : CropResidues) → 1 ≤ left.years → left.years ≤ 20 → Divides (residues_exact row left).denominator
+by_row None left low high = whole
+by_row (Some row) left low high = divides_common 10000000000 left.years (dvd_refl 10000000000) (years_occur left.years low high) (omega arith)
+
+divides : (a : Activity) → range_fault a ≡ None → Divides (exact a).denominator
+divides (Synthetic mass content) h = whole
+divides (Manure m) h = whole
+divides (Sludge mass content) h = thousandths
+divides (Grazing herd) h = thousandths
+divides (Residues left) h = by_row (row_of left.crop) left (grind (arith, nat_tests)) (grind (arith, nat_tests))
+divides (Mineralised carbon) h = fifteenths
+divides (Drained class area) h = whole
+divides (Lime stone mass) h = whole
+divides (Urea mass) h = whole
 
 nearest_law : (n d : ℕ) → 1 ≤ d → Nearest n d (nearest n d)
 nearest_law n d positive =
@@ -85,12 +77,6 @@ scaled n d g k law =
     let high = mul-le-mul_right k law.near.1 in
     (omega arith, omega arith)
 
-shared : (d : ℕ) → Occurs d → common / d * d ≡ common
-unfolding common
-shared d o =
-    let divides = mul-dvd-mul o.ten o.divisor o.ten_divides (among_divides o.divisor divisors o.among) in
-    div-mul_cancel d (subst (λ (z : ℕ). z ∣ 10000000000 * product divisors) (sym o.parted) divides)
-
 common_positive : 0 < common
 unfolding common
 common_positive = omega arith
@@ -99,12 +85,11 @@ pub weighed : (a : Activity) → range_fault a ≡ None → Weighed a (grams_of 
 weighed a h =
     let n = (exact a).numerator in
     let d = (exact a).denominator in
-    let o = occurs a h in
-    let law = nearest_law n d o.positive in
-    let whole : common / d * d ≡ common = shared d o in
+    let shared : Divides d = divides a h in
+    let law = nearest_law n d shared.0 in
     record {
       rounded = law;
       positive = common_positive;
-      same_fraction = mul_assoc n (common / d) d ∙ ap (λ (z : ℕ). n * z) whole;
-      half_gram = subst (λ (z : ℕ). Within z (2 * (grams_of a * z)) (2 * exact_shared a)) whole (scaled n d (grams_of a) (common / d) law);
+      same_fraction = mul_assoc n (common / d) d ∙ ap (λ (z : ℕ). n * z) shared.1;
+      half_gram = subst (λ (z : ℕ). Within z (2 * (grams_of a * z)) (2 * exact_shared a)) shared.1 (scaled n d (grams_of a) (common / d) law);
     }

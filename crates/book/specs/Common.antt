@@ -1,26 +1,17 @@
 -- Exact grams over one common denominator, and how far whole grams are from them.
-use Rattle.std.specs.Prelude.{◌≡◌, ℕ, zero, suc, ◌*◌, ◌/◌, ◌<◌, List, [], ◌∷◌}
+use Rattle.std.specs.Prelude.{◌≡◌, ℕ, ◌*◌, ◌/◌, ◌<◌, List, ◌∷◌, fold}
+use Rattle.std.specs.List.{range_with_len}
 use Rattle.book.specs.declared.entry.Activity.{Activity}
 use Rattle.book.specs.Grams.{exact}
 use Rattle.book.specs.Nearest.{Within, Nearest}
 
--- the whole numbers from n down to 1
-abbrev pub down_from : ℕ → List ℕ
-down_from zero = []
-down_from (suc n) = suc n ∷ down_from n
-
 -- the divisors of exact grams beside powers of ten: carbon to nitrogen in a soil, and the years over which residues are shared out
 abbrev pub divisors : List ℕ
-divisors = 15 ∷ down_from 20
+divisors = 15 ∷ range_with_len 1 20
 
--- all of them multiplied
-abbrev pub product : List ℕ → ℕ
-product [] = 1
-product (x ∷ xs) = x * product xs
-
--- one denominator for all exact grams, so that they can be added and compared as whole numbers; no power of ten in them is above this one
+-- one denominator for all exact grams, so that they can be added and compared as whole numbers: every divisor and the highest power of ten in the denominators, multiplied
 unfoldable pub common : ℕ
-common = 10000000000 * product divisors
+common = 10000000000 * fold (λ a d. a * d) 1 divisors
 
 -- an activity's exact grams over the common denominator
 abbrev pub exact_shared : Activity → ℕ

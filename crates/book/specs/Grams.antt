@@ -1,16 +1,26 @@
 -- The nitrogen that an activity brings, in grams.
-use Rattle.std.specs.Prelude.{ℕ, ◌+◌, ◌-◌, ◌*◌, ◌≤◌, Some, None, Option}
+use Rattle.std.specs.Prelude.{ℕ, ◌+◌, ◌-◌, ◌*◌, Some, None, Option}
 use Rattle.book.specs.declared.crops.CropRow.{CropRow}
 use Rattle.book.specs.declared.entry.Activity.{Activity}
 use Rattle.book.specs.declared.entry.Activity.TheVariants.{Synthetic, Manure, Sludge, Grazing, Residues, Mineralised, Drained, Lime, Urea}
 use Rattle.book.specs.declared.entry.CropResidues.{CropResidues}
-use Rattle.book.specs.declared.grams.Fraction.{Fraction}
+use Rattle.book.specs.declared.fraction.Fraction.{Fraction}
 use Rattle.book.specs.Crops.{row_of}
+use Rattle.book.specs.Manure.{unspread}
 use Rattle.book.specs.Nearest.{nearest}
 
+-- a fraction of whole numbers
+pub record Ratio : Type 0 where
+  pub numerator : ℕ
+  pub denominator : ℕ
+
 -- n / d
-abbrev pub over : ℕ → ℕ → Fraction
+abbrev pub over : ℕ → ℕ → Ratio
 over n d = record { numerator = n; denominator = d }
+
+-- the ratio that a fraction of the code is
+abbrev pub ratio : Fraction → Ratio
+ratio f = over f.numerator f.denominator
 
 -- dry residue above ground, in tenths of a gram
 abbrev pub above_ground : CropRow → CropResidues → ℕ
@@ -25,14 +35,14 @@ abbrev pub roots : CropRow → CropResidues → ℕ
 roots row left = (above_ground row left + 100 * left.harvest * row.dry) * row.root_ratio * row.roots_nitrogen
 
 -- tops and roots, shared out over the years between renewals; a crop without a row brings nothing
-abbrev pub residues_exact : Option CropRow → CropResidues → Fraction
+abbrev pub residues_exact : Option CropRow → CropResidues → Ratio
 residues_exact None left = over 0 1
 residues_exact (Some row) left = over (tops row left + 10000 * roots row left) (10000000000 * left.years)
 
 -- the exact grams of an activity, as a fraction of whole numbers
-abbrev pub exact : Activity → Fraction
+abbrev pub exact : Activity → Ratio
 exact (Synthetic mass content) = over (mass * content) 1
-exact (Manure available feed fuel building) = over (available * (1000 - (feed + fuel + building))) 1
+exact (Manure m) = over (m.available * (1000 - unspread m)) 1
 exact (Sludge mass content) = over (mass * content) 1000
 exact (Grazing herd) = over (herd.heads * herd.grams_per_head * herd.pasture) 1000
 exact (Residues left) = residues_exact (row_of left.crop) left
@@ -48,7 +58,3 @@ grams_of a = nearest (exact a).numerator (exact a).denominator
 -- no entry may bring more
 abbrev pub most_grams : ℕ
 most_grams = 500000000
-
--- a fraction that can be rounded without overflow
-abbrev pub Small : Fraction → Type 0
-Small f = (f.numerator ≤ 1000000000000000000000000000000) × (1 ≤ f.denominator) × (f.denominator ≤ 1000000000000)

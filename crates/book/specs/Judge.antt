@@ -42,6 +42,10 @@ range_check a = check_on FieldOutOfRange (range_fault a)
 abbrev pub kind_checks : Activity → List Check
 kind_checks a = unless (crop_known a) UnknownCrop 5 ∷ unless (shares_fit a) SharesAboveWhole 0 ∷ []
 
+-- the grounds on which an activity is judged, in their order
+abbrev pub activity_checks : Activity → List Check
+activity_checks a = range_check a ∷ kind_checks a
+
 -- the entry does not bring too much
 abbrev pub grams_check : Activity → Check
 grams_check a = unless (nat_le (grams_of a) most_grams) TooManyGrams 0
@@ -52,8 +56,7 @@ entry_checks e =
     number_check e.number
     ∷ land_check e.land
     ∷ site_check e.site
-    ∷ range_check e.activity
-    ∷ (kind_checks e.activity ++ grams_check e.activity ∷ [])
+    ∷ (activity_checks e.activity ++ grams_check e.activity ∷ [])
 
 -- why an entry is refused
 abbrev pub entry_refusal : Entry → Option Refusal
@@ -80,10 +83,10 @@ line_from e = line_at (land_of e.land) (site_of e.site) e.number e.activity
 abbrev pub line_of : LawfulEntry → Line
 line_of k = record { number = k.number; land = k.land; site = k.site; activity = as_given k.activity }
 
--- what typing an activity answers
+-- what judging an activity alone answers: what is kept of it, or the first ground that fits
 abbrev pub Typed : Activity → Result LawfulActivity Refusal → Type 0
-Typed a (Ok k) = (first_fault (kind_checks a) ≡ None) × (as_given k ≡ a)
-Typed a (Err r) = first_fault (kind_checks a) ≡ Some r
+Typed a (Ok k) = (first_fault (activity_checks a) ≡ None) × (as_given k ≡ a)
+Typed a (Err r) = first_fault (activity_checks a) ≡ Some r
 
 -- what judging an entry answers: the lawful entry that it asks for and its grams, or the first ground that fits
 abbrev pub Judged : Entry → Result LawfulEntry Refusal → Type 0

@@ -1,6 +1,8 @@
 -- The lands, and their letters.
-use Rattle.std.specs.Prelude.{◌≡◌, ℕ, List, [], ◌∷◌, Some, None, Option, ◌≢◌}
+use Rattle.std.specs.Prelude.{◌≡◌, ℕ, List, [], ◌∷◌, Some, None, Ok, Err, Option, Result, ◌≢◌}
 use Rattle.factors.specs.Lookup.{found}
+use Rattle.factors.specs.declared.ground.Ground.{Ground}
+use Rattle.factors.specs.declared.ground.Ground.TheVariants.{UnknownLand}
 use Rattle.book.specs.declared.land.Land.{Land}
 use Rattle.book.specs.declared.land.Land.TheVariants.{Forest, Cropland, Grassland, Wetlands, Settlements, Other}
 
@@ -21,7 +23,7 @@ all_lands = Forest ∷ Cropland ∷ Grassland ∷ Wetlands ∷ Settlements ∷ O
 abbrev pub land_of : ℕ → Option Land
 land_of c = found land_letter c all_lands
 
--- the law of reading a land: this is its letter, or no land has this letter
-abbrev pub Lettered : ℕ → Option Land → Type 0
-Lettered letter None = (l : Land) → letter ≢ land_letter l
-Lettered letter (Some l) = letter ≡ land_letter l
+-- what reading a letter answers: the land that has this letter, or the ground of an unknown land where none has it
+abbrev pub LandRead : ℕ → Result Land Ground → Type 0
+LandRead c (Ok l) = (land_of c ≡ Some l) × (c ≡ land_letter l)
+LandRead c (Err g) = (land_of c ≡ None) × ((l : Land) → c ≢ land_letter l) × (g ≡ UnknownLand)

@@ -2,6 +2,7 @@ pub mod Lookup
 pub mod Lands
 pub mod Crops
 pub mod Ranges
+pub mod Manure
 pub mod Activity
 pub mod Nearest
 pub mod Grams

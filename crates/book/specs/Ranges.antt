@@ -1,5 +1,9 @@
 -- The ranges of an entry's numbers.
-use Rattle.std.specs.Prelude.{ℕ, ◌+◌, Bool, cond, not, ◌&&◌, List, [], ◌∷◌, is_some, Some, None, Option, nat_le}
+use Rattle.std.specs.Prelude.{ℕ, ◌+◌, Bool, not, ◌&&◌, List, [], ◌∷◌, is_some, position, Some, None, Ok, Err, Option, Result, nat_le}
+use Rattle.std.specs.Option.{option_map}
+use Rattle.factors.specs.Grounds.{refusal_on}
+use Rattle.factors.specs.declared.ground.Ground.TheVariants.{FieldOutOfRange}
+use Rattle.factors.specs.declared.ground.Refusal.{Refusal}
 use Rattle.book.specs.declared.entry.Activity.{Activity}
 use Rattle.book.specs.declared.entry.Activity.TheVariants.{Synthetic, Manure, Sludge, Grazing, Residues, Mineralised, Drained, Lime, Urea}
 use Rattle.book.specs.declared.ranges.Range.{Range}
@@ -31,7 +35,7 @@ percents = upto 0 100
 -- the place in a line at which the activity's numbers begin; a class letter or a crop code may stand before them
 abbrev pub first_place : Activity → ℕ
 first_place (Synthetic mass content) = 5
-first_place (Manure available feed fuel building) = 5
+first_place (Manure m) = 5
 first_place (Sludge mass content) = 5
 first_place (Grazing herd) = 6
 first_place (Residues left) = 6
@@ -43,7 +47,7 @@ first_place (Urea mass) = 5
 -- the activity's numbers in their order, each with its range
 abbrev pub ranged : Activity → List (ℕ × Range)
 ranged (Synthetic mass content) = (mass, kilograms) ∷ (content, upto 1 1000) ∷ []
-ranged (Manure available feed fuel building) = (available, upto 1 1000000) ∷ (feed, shares) ∷ (fuel, shares) ∷ (building, shares) ∷ []
+ranged (Manure m) = (m.available, upto 1 1000000) ∷ (m.feed, shares) ∷ (m.fuel, shares) ∷ (m.building, shares) ∷ []
 ranged (Sludge mass content) = (mass, kilograms) ∷ (content, upto 1 100000) ∷ []
 ranged (Grazing herd) = (herd.heads, upto 1 1000000) ∷ (herd.grams_per_head, upto 1 500000) ∷ (herd.pasture, shares) ∷ []
 ranged (Residues left) = (left.harvest, kilograms) ∷ (left.area, ares) ∷ (left.burnt, percents) ∷ (left.removed, percents) ∷ (left.years, upto 1 20) ∷ []
@@ -56,10 +60,9 @@ ranged (Urea mass) = (mass, kilograms) ∷ []
 abbrev pub within : ℕ → Range → Bool
 within n r = nat_le r.least n && nat_le n r.greatest
 
--- the place of the first number that is out of its range, where the first stands at a place
+-- the place of the first number that is out of its range, where the first number stands at a place
 abbrev pub outside : ℕ → List (ℕ × Range) → Option ℕ
-outside place [] = None
-outside place (x ∷ xs) = cond (within x.0 x.1) (outside (place + 1) xs) (Some place)
+outside place xs = option_map (λ i. place + i) (position (λ x. not (within x.0 x.1)) xs)
 
 -- the place of the activity's first number that is out of its range
 abbrev pub range_fault : Activity → Option ℕ
@@ -68,3 +71,8 @@ range_fault a = outside (first_place a) (ranged a)
 -- all of the activity's numbers are in their ranges
 abbrev pub in_ranges : Activity → Bool
 in_ranges a = not (is_some (range_fault a))
+
+-- what a check of ranges answers: done, or refused at the field that is out of its range
+abbrev pub checked : Option ℕ → Result (Unit {0}) Refusal
+checked None = Ok tt
+checked (Some f) = Err (refusal_on FieldOutOfRange f)

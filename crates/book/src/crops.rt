@@ -7,6 +7,7 @@ use super::lookup::{Numbered, place};
 // One crop's coefficients.
 #[derive(Clone, Copy)]
 pub struct CropRow {
+    // by which the look-up finds it, so a number and no enum
     pub code: u32,
     // dry share of the harvest, hundredths
     pub dry: u8,
@@ -25,7 +26,7 @@ pub struct CropRow {
 }
 
 impl Numbered for CropRow {
-    ghost numberof = { λ row. row.code };
+    ghost number = { λ row. row.code };
 
     fn number(&self) -> u32 {
         self.code
@@ -101,7 +102,7 @@ const CROP_ROWS: [CropRow; 6] = [
     },
 ];
 
-// The row with this code.
+// The row with this code; nothing, as look-ups answer, where there is none.
 pub fn crop_row(code: u32) -> Option<CropRow>
     ensures row { result ≡ row_of code }
     ensures limit { ShareLimit result }

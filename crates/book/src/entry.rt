@@ -1,12 +1,13 @@
 // Entries as they are given, lawful or not.
 
-// Whose dung and urine a pasture gets.
+// Whose dung and urine a pasture gets; no `Material`, of which four do not graze.
 #[derive(Clone, Copy)]
 pub enum Animals {
     CattlePoultryPigs,
     SheepAndOthers,
 }
 
+// No `CarbonMaterial`, since urea is a kind of its own.
 #[derive(Clone, Copy)]
 pub enum LimeStone {
     Limestone,
@@ -24,10 +25,23 @@ pub struct Herd {
     pub pasture: u32,
 }
 
+// Managed manure.
+#[derive(Clone, Copy)]
+pub struct Manure {
+    // kg of nitrogen
+    pub available: u32,
+    // thousandths of it that go to feed
+    pub feed: u32,
+    // thousandths that go to fuel
+    pub fuel: u32,
+    // thousandths that go to building
+    pub building: u32,
+}
+
 // What a crop leaves behind.
 #[derive(Clone, Copy)]
 pub struct CropResidues {
-    // the code of the crop
+    // the code of the crop; a number, so that one without a row can be given and refused
     pub crop: u32,
     // kg, fresh
     pub harvest: u32,
@@ -45,44 +59,23 @@ pub struct CropResidues {
 #[derive(Clone, Copy)]
 pub enum Activity {
     // kg of fertiliser, and its nitrogen in thousandths
-    Synthetic {
-        mass: u32,
-        content: u32,
-    },
-    // kg of nitrogen in managed manure, and the thousandths of it that go to feed, fuel and building
-    Manure {
-        available: u32,
-        feed: u32,
-        fuel: u32,
-        building: u32,
-    },
+    Synthetic { mass: u32, content: u32 },
+    Manure(Manure),
     // kg of sludge, compost or other, and its nitrogen in mg per kg
-    Sludge {
-        mass: u32,
-        content: u32,
-    },
+    Sludge { mass: u32, content: u32 },
     Grazing(Herd),
     Residues(CropResidues),
     // kg of soil carbon lost
-    Mineralised {
-        carbon: u32,
-    },
-    // the number of the class, and ares
-    Drained {
-        class: u32,
-        area: u32,
-    },
+    Mineralised { carbon: u32 },
+    // the number of the class, any number, so that one without a class can be given and refused; and ares
+    Drained { class: u32, area: u32 },
     // kg
-    Lime {
-        stone: LimeStone,
-        mass: u32,
-    },
+    Lime { stone: LimeStone, mass: u32 },
     // kg
-    Urea {
-        mass: u32,
-    },
+    Urea { mass: u32 },
 }
 
+// The land and the site by letters, any letters, so that unknown ones can be given and refused.
 #[derive(Clone, Copy)]
 pub struct Entry {
     pub number: u32,

@@ -1,6 +1,7 @@
 // Kinds of land.
-ghost use Rattle.std.specs.Prelude.{◌≡◌};
-ghost use Rattle.book.specs.Lands.{land_of, Lettered};
+ghost use Rattle.book.specs.Lands.{LandRead};
+
+use factors::Ground;
 
 #[derive(Clone, Copy)]
 pub enum Land {
@@ -12,20 +13,20 @@ pub enum Land {
     Other,
 }
 
-impl Land {
-    // The land with this letter.
-    pub fn from_letter(letter: char) -> Option<Land>
-        ensures land { result ≡ land_of letter }
-        ensures law { Lettered letter result }
-    {
+impl TryFrom<char> for Land {
+    type Error = Ground;
+
+    ghost try_from_gives = { LandRead };
+
+    fn try_from(letter: char) -> Result<Land, Ground> {
         match letter {
-            'F' => Some(Land::Forest),
-            'C' => Some(Land::Cropland),
-            'G' => Some(Land::Grassland),
-            'W' => Some(Land::Wetlands),
-            'S' => Some(Land::Settlements),
-            'O' => Some(Land::Other),
-            _ => None,
+            'F' => Ok(Land::Forest),
+            'C' => Ok(Land::Cropland),
+            'G' => Ok(Land::Grassland),
+            'W' => Ok(Land::Wetlands),
+            'S' => Ok(Land::Settlements),
+            'O' => Ok(Land::Other),
+            _ => Err(Ground::UnknownLand),
         }
     }
 }

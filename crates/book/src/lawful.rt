@@ -9,7 +9,7 @@ use super::activity::LawfulActivity;
 use super::land::Land;
 use factors::Site;
 
-// A lawful entry, and its whole grams of nitrogen.
+// A lawful entry, and its whole grams of nitrogen. Not one type with `Entry`: three fields change their type, and the grams and five facts come.
 #[derive(Clone, Copy)]
 pub struct LawfulEntry {
     pub number: u32,

@@ -4,20 +4,15 @@ ghost use Rattle.book.specs.Lookup.{Placed};
 
 // What carries a number.
 pub trait Numbered {
-    ghost numberof: { Self → ℕ };
+    ghost number: { Self → ℕ };
 
     fn number(&self) -> u32
-        ensures { result ≡ numberof self.now };
+        ensures { result ≡ number self.now };
 }
 
 // The place of the first member with this number.
 pub fn place<T: Numbered>(list: &[T], number: u32) -> Option<usize>
-    ensures { Placed T.Numbered.numberof list.now number result }
+    ensures { Placed T.number list.now number result }
 {
-    for (i, member) in list.iter().enumerate() {
-        if member.number() == number {
-            return Some(i);
-        }
-    }
-    None
+    list.iter().position(|member| member.number() == number)
 }

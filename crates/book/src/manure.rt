@@ -1,37 +1,39 @@
-// Managed manure.
-ghost use Rattle.std.specs.Prelude.{◌≡◌, ◌+◌, ◌-◌, ◌*◌, ◌<◌, ◌≤◌, MatchOption};
+// Managed manure as it is kept.
+ghost use Rattle.std.specs.Prelude.{◌≡◌, ◌-◌, ◌*◌, ◌≤◌};
+ghost use Rattle.book.specs.Manure.{unspread};
 
-// kg of nitrogen in managed manure, and the thousandths of it that are not spread.
+use super::entry::Manure;
+use factors::Ground;
+
+// Manure whose shares to feed, fuel and building are at most the whole.
 #[derive(Clone, Copy)]
-pub struct Manure {
-    pub available: u32,
-    pub feed: u32,
-    pub fuel: u32,
-    pub building: u32,
-    ghost shares: { feed + fuel + building ≤ 1000 },
+pub struct LawfulManure {
+    pub given: Manure,
+    ghost shares: { unspread given ≤ 1000 },
 }
 
-impl Manure {
-    // Nothing is made where the shares add up to more than the whole.
-    pub fn new(available: u32, feed: u32, fuel: u32, building: u32) -> Option<Manure>
-        ensures { MatchOption result (1000 < feed + fuel + building) (λ m. (m.available ≡ available) × (m.feed ≡ feed) × (m.fuel ≡ fuel) × (m.building ≡ building)) }
-    {
-        let shares = u64::from(feed) + u64::from(fuel) + u64::from(building);
-        if shares > 1000 {
-            return None;
-        }
-        Some(Manure {
-            available,
-            feed,
-            fuel,
-            building,
-        })
-    }
+impl TryFrom<Manure> for LawfulManure {
+    ghost use Rattle.book.specs.Activity.{ManureRead};
 
+    type Error = Ground;
+
+    ghost try_from_gives = { ManureRead };
+
+    fn try_from(given: Manure) -> Result<LawfulManure, Ground> {
+        let shares = u64::from(given.feed) + u64::from(given.fuel) + u64::from(given.building);
+        if shares > 1_000 {
+            return Err(Ground::SharesAboveWhole);
+        }
+        Ok(LawfulManure { given })
+    }
+}
+
+impl LawfulManure {
     // Grams of nitrogen that are spread.
     pub(crate) fn spread(self) -> u128
-        ensures { result ≡ self.available * (1000 - (self.feed + self.fuel + self.building)) }
+        ensures { result ≡ self.given.available * (1000 - unspread self.given) }
     {
-        self.available as u128 * (1_000 - (self.feed + self.fuel + self.building)) as u128
+        let shares = self.given.feed + self.given.fuel + self.given.building;
+        u128::from(self.given.available) * u128::from(1_000 - shares)
     }
 }

@@ -1,10 +1,11 @@
 // The ranges of an entry's numbers.
-ghost use Rattle.std.specs.Prelude.{◌≡◌, ◌+◌, ◌≤◌, length};
-ghost use Rattle.book.specs.Ranges.{within, outside, range_fault};
-ghost use Rattle.book.specs.declared.entry.Activity.TheVariants.{Grazing, Residues};
+ghost use Rattle.std.specs.Prelude.{◌≡◌, ◌+◌, ◌≤◌, length, not, position};
+ghost use Rattle.book.specs.Ranges.{within, outside, range_fault, checked};
 
-use super::entry::{Activity, CropResidues, Herd};
+use super::entry::{Activity, CropResidues};
+use factors::{Ground, Refusal};
 
+// From the least to the greatest. The standard inclusive range is an iterator too, and what it contains depends on whether it is used up, which a list of ranges would have to rule out of each.
 #[derive(Clone, Copy)]
 pub(crate) struct Range {
     least: u32,
@@ -78,42 +79,35 @@ impl Range {
     pub(crate) fn holds(self, value: u32) -> bool
         ensures { result ≡ within value self }
     {
-        self.least <= value && value <= self.greatest
+        (self.least..=self.greatest).contains(&value)
     }
 }
 
-// The place of the first value out of its range, the first value standing at `first`.
-fn first_outside(first: u8, values: &[(u32, Range)]) -> Option<u8>
+// The index of the first value out of its range; apart, since the check finds the answer of `position` where it is the whole result.
+fn index_outside(values: &[(u32, Range)]) -> Option<usize>
+    ensures { result ≡ position (λ x. not (within x.0 x.1)) values.now }
+{
+    values
+        .iter()
+        .position(|(value, range)| !range.holds(*value))
+}
+
+// Refused at the first value out of its range, the first value standing at `first`.
+fn check(first: u8, values: &[(u32, Range)]) -> Result<(), Refusal>
     requires { first + length values.now ≤ 255 }
-    ensures { result ≡ outside first values.now }
+    ensures { result ≡ checked (outside first values.now) }
 {
-    let mut place = first;
-    for (value, range) in values {
-        if !range.holds(*value) {
-            return Some(place);
-        }
-        place += 1;
+    match index_outside(values) {
+        Some(i) => Err(Ground::FieldOutOfRange.at(first + i as u8)),
+        None => Ok(()),
     }
-    None
 }
 
-fn herd_fault(herd: Herd) -> Option<u8>
-    ensures { result ≡ range_fault (Grazing herd) }
+// Apart, so that no function is over 40 lines.
+fn check_residues(left: CropResidues) -> Result<(), Refusal>
+    ensures { result ≡ checked (range_fault (Activity.Residues left)) }
 {
-    first_outside(
-        6,
-        &[
-            (herd.heads, HEADS),
-            (herd.grams_per_head, GRAMS_PER_HEAD),
-            (herd.pasture, SHARE),
-        ],
-    )
-}
-
-fn residues_fault(left: CropResidues) -> Option<u8>
-    ensures { result ≡ range_fault (Residues left) }
-{
-    first_outside(
+    check(
         6,
         &[
             (left.harvest, KILOGRAMS),
@@ -125,36 +119,36 @@ fn residues_fault(left: CropResidues) -> Option<u8>
     )
 }
 
-// The place in the line of the first number of the activity that is out of its range.
-pub(crate) fn range_fault(activity: Activity) -> Option<u8>
-    ensures { result ≡ range_fault activity }
+// Refused at the first number of the activity that is out of its range; its field is its place in the line.
+pub(crate) fn check_ranges(activity: Activity) -> Result<(), Refusal>
+    ensures { result ≡ checked (range_fault activity) }
 {
     match activity {
         Activity::Synthetic { mass, content } => {
-            first_outside(5, &[(mass, KILOGRAMS), (content, THOUSANDTHS)])
+            check(5, &[(mass, KILOGRAMS), (content, THOUSANDTHS)])
         }
-        Activity::Manure {
-            available,
-            feed,
-            fuel,
-            building,
-        } => first_outside(
+        Activity::Manure(manure) => check(
             5,
             &[
-                (available, AVAILABLE),
-                (feed, SHARE),
-                (fuel, SHARE),
-                (building, SHARE),
+                (manure.available, AVAILABLE),
+                (manure.feed, SHARE),
+                (manure.fuel, SHARE),
+                (manure.building, SHARE),
             ],
         ),
-        Activity::Sludge { mass, content } => {
-            first_outside(5, &[(mass, KILOGRAMS), (content, MILLIGRAMS)])
-        }
-        Activity::Grazing(herd) => herd_fault(herd),
-        Activity::Residues(left) => residues_fault(left),
-        Activity::Mineralised { carbon } => first_outside(5, &[(carbon, KILOGRAMS)]),
-        Activity::Drained { class, area } => first_outside(5, &[(class, CLASSES), (area, ARES)]),
-        Activity::Lime { stone: _, mass } => first_outside(6, &[(mass, KILOGRAMS)]),
-        Activity::Urea { mass } => first_outside(5, &[(mass, KILOGRAMS)]),
+        Activity::Sludge { mass, content } => check(5, &[(mass, KILOGRAMS), (content, MILLIGRAMS)]),
+        Activity::Grazing(herd) => check(
+            6,
+            &[
+                (herd.heads, HEADS),
+                (herd.grams_per_head, GRAMS_PER_HEAD),
+                (herd.pasture, SHARE),
+            ],
+        ),
+        Activity::Residues(left) => check_residues(left),
+        Activity::Mineralised { carbon } => check(5, &[(carbon, KILOGRAMS)]),
+        Activity::Drained { class, area } => check(5, &[(class, CLASSES), (area, ARES)]),
+        Activity::Lime { stone: _, mass } => check(6, &[(mass, KILOGRAMS)]),
+        Activity::Urea { mass } => check(5, &[(mass, KILOGRAMS)]),
     }
 }

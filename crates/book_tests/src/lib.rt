@@ -3,9 +3,8 @@
 
 #[cfg(test)]
 mod tests {
-    use book::{Activity, Animals, CropResidues, Entry, Herd, LimeStone, crop_row};
+    use book::{Activity, Animals, CropResidues, Entry, Herd, LimeStone, Manure, crop_row};
     use factors::{Ground, Refusal};
-    use std::test::Fail;
 
     // The columns of the printed table of crops, in thousandths: dry share, slope, intercept, nitrogen of tops, root ratio, nitrogen of roots.
     const PRINTED: [[u32; 6]; 6] = [
@@ -58,7 +57,7 @@ mod tests {
     }
 
     fn refused(ground: Ground, field: u8) -> Result<u32, Refusal> {
-        Err(Refusal { ground, field })
+        Err(ground.at(field))
     }
 
     fn residues(crop: u32, numbers: [u32; 5]) -> CropResidues {
@@ -73,7 +72,7 @@ mod tests {
         }
     }
 
-    // An activity of the kind with this letter.
+    // An activity of the kind with this letter, by which the tables name it, as a line does.
     fn activity(kind: char, numbers: [u32; 5]) -> Activity {
         let [a, b, c, d, _] = numbers;
         match kind {
@@ -81,12 +80,12 @@ mod tests {
                 mass: a,
                 content: b,
             },
-            'M' => Activity::Manure {
+            'M' => Activity::Manure(Manure {
                 available: a,
                 feed: b,
                 fuel: c,
                 building: d,
-            },
+            }),
             'S' => Activity::Sludge {
                 mass: a,
                 content: b,
@@ -108,40 +107,29 @@ mod tests {
         }
     }
 
-    // The field named where an entry of the kind has a number out of its range: this number has this value, all others are 1.
-    fn out_of_range(kind: char, at: usize, value: u32) -> Option<u8> {
+    // The refusal where an entry of the kind has a number out of its range: this number has this value, all others are 1.
+    fn out_of_range(kind: char, at: usize, value: u32) -> Option<Refusal> {
         let mut numbers = [1; 5];
         if at < 5 {
             numbers[at] = value;
         }
-        match field(activity(kind, numbers)).judge() {
-            Err(
-                Refusal {
-                    ground: Ground::FieldOutOfRange,
-                    field,
-                },
-            ) => Some(field),
-            _ => None,
-        }
+        let refusal = field(activity(kind, numbers)).judge().err()?;
+        (refusal.ground == Ground::FieldOutOfRange).then_some(refusal)
     }
 
     #[test]
-    fn the_crop_rows_are_the_printed_ones(rt: HostRuntime) -> Result<(), Fail> {
-        for (i, printed) in PRINTED.iter().enumerate() {
-            let code = i as u32 + 1;
-            let Some(row) = crop_row(code) else {
-                assert!(rt; false, "a row is missing");
-                return Ok(());
-            };
+    fn the_crop_rows_are_the_printed_ones(rt: HostRuntime) {
+        for (code, printed) in (1..7).zip(PRINTED) {
+            let row = crop_row(code).expect(&rt, "a row is missing");
             let kept = [
-                10 * row.dry as u32,
-                10 * row.slope as u32,
-                10 * row.intercept as u32,
-                row.tops_nitrogen as u32,
-                10 * row.root_ratio as u32,
-                row.roots_nitrogen as u32,
+                10 * u32::from(row.dry),
+                10 * u32::from(row.slope),
+                10 * u32::from(row.intercept),
+                u32::from(row.tops_nitrogen),
+                10 * u32::from(row.root_ratio),
+                u32::from(row.roots_nitrogen),
             ];
-            assert!(rt; kept == *printed, "another row");
+            assert!(rt; kept == printed, "another row");
             let combusted = if code == 3 { 90 } else { 80 };
             assert_eq!(rt; row.combusted, combusted, "another combusted share");
         }
@@ -149,7 +137,6 @@ mod tests {
             crop_row(0).is_none() && crop_row(7).is_none(),
             "a row too many"
         );
-        Ok(())
     }
 
     #[test]
@@ -159,13 +146,13 @@ mod tests {
             assert_eq!(rt; out_of_range(kind, at, greatest), None, "the greatest");
             assert_eq!(rt;
                 out_of_range(kind, at, greatest.saturating_add(1)),
-                Some(place),
+                Some(Ground::FieldOutOfRange.at(place)),
                 "above the greatest"
             );
             if least > 0 {
                 assert_eq!(rt;
                     out_of_range(kind, at, least - 1),
-                    Some(place),
+                    Some(Ground::FieldOutOfRange.at(place)),
                     "below the least"
                 );
             }
