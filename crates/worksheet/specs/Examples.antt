@@ -1,6 +1,5 @@
 -- Worked examples: entries, and what judging them answers.
-use Rattle.std.specs.Prelude.{◌≡◌, ℕ, List, [], ◌∷◌, Some, None, Ok, Err, Option, Result}
-use Rattle.std.specs.List.{AllByRecursion}
+use Rattle.std.specs.Prelude.{◌≡◌, ℕ, List, All, [], ◌∷◌, Some, None, Ok, Err, Option, Result}
 use Rattle.factors.specs.declared.ground.Ground.{Ground}
 use Rattle.factors.specs.declared.ground.Ground.TheVariants.{NumberOutOfRange, UnknownLand, UnknownSite, FieldOutOfRange, UnknownCrop, SharesAboveWhole, TooManyGrams}
 use Rattle.factors.specs.declared.ground.Refusal.{Refusal}
@@ -31,6 +30,10 @@ refused g f = Err (refusal_on g f)
 abbrev entry : ℕ → ℕ → List ℕ → Activity → Entry
 entry number land site activity = record { number = number; land = land; site = site; activity = activity }
 
+-- manure by what is available and the shares of feed, fuel and building
+abbrev manure : ℕ → ℕ → ℕ → ℕ → Activity
+manure available feed fuel building = Manure (record { available = available; feed = feed; fuel = fuel; building = building })
+
 -- grazing by animals, heads, grams per head, share on pasture
 abbrev grazing : Animals → ℕ → ℕ → ℕ → Activity
 grazing animals heads grams pasture = Grazing (record { animals = animals; heads = heads; grams_per_head = grams; pasture = pasture })
@@ -55,8 +58,8 @@ UWL = 85 ∷ 87 ∷ 76 ∷ []
 abbrev pub worked : List (Entry × Result ℕ Refusal)
 worked =
     (entry 1 67 UWL (Synthetic 1000 460), Ok 460000)
-    ∷ (entry 2 67 UWL (Manure 1000 0 0 0), Ok 1000000)
-    ∷ (entry 3 67 UWL (Manure 1000 1000 0 0), Ok 0)
+    ∷ (entry 2 67 UWL (manure 1000 0 0 0), Ok 1000000)
+    ∷ (entry 3 67 UWL (manure 1000 1000 0 0), Ok 0)
     ∷ (entry 4 67 UWL (Sludge 1 500), Ok 1)
     ∷ (entry 5 67 UWL (Sludge 1 499), Ok 0)
     ∷ (entry 6 71 UWL (grazing CattlePoultryPigs 100 70000 500), Ok 3500000)
@@ -71,10 +74,10 @@ worked =
     ∷ (entry 14 67 ULW (Urea 1000), refused UnknownSite 3)
     ∷ (entry 15 67 UWL (Synthetic 1000 1001), refused FieldOutOfRange 6)
     ∷ (entry 16 67 UWL (residues 7 5000 100 0 0 1), refused UnknownCrop 5)
-    ∷ (entry 17 67 UWL (Manure 1000 1000 1 0), refused SharesAboveWhole 0)
+    ∷ (entry 17 67 UWL (manure 1000 1000 1 0), refused SharesAboveWhole 0)
     ∷ (entry 18 67 UWL (Synthetic 500001 1000), refused TooManyGrams 0)
     ∷ []
 
 -- each is judged as the table says
 abbrev pub Right : List (Entry × Result ℕ Refusal) → Type 0
-Right xs = AllByRecursion (λ x. outcome x.0 ≡ x.1) xs
+Right xs = All (λ x. outcome x.0 ≡ x.1) xs

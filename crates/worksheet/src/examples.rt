@@ -2,7 +2,7 @@
 ghost use Rattle.std.specs.Prelude.{◌≡◌, map};
 ghost use Rattle.worksheet.specs.Examples.{worked, Right};
 
-use book::{Activity, Animals, CropResidues, Entry, Herd, LimeStone};
+use book::{Activity, Animals, CropResidues, Entry, Herd, LimeStone, Manure};
 
 const EXAMPLES: [Entry; 19] = [
     Entry {
@@ -18,23 +18,23 @@ const EXAMPLES: [Entry; 19] = [
         number: 2,
         land: 'C',
         site: ['U', 'W', 'L'],
-        activity: Activity::Manure {
+        activity: Activity::Manure(Manure {
             available: 1_000,
             feed: 0,
             fuel: 0,
             building: 0,
-        },
+        }),
     },
     Entry {
         number: 3,
         land: 'C',
         site: ['U', 'W', 'L'],
-        activity: Activity::Manure {
+        activity: Activity::Manure(Manure {
             available: 1_000,
             feed: 1_000,
             fuel: 0,
             building: 0,
-        },
+        }),
     },
     Entry {
         number: 4,
@@ -165,12 +165,12 @@ const EXAMPLES: [Entry; 19] = [
         number: 17,
         land: 'C',
         site: ['U', 'W', 'L'],
-        activity: Activity::Manure {
+        activity: Activity::Manure(Manure {
             available: 1_000,
             feed: 1_000,
             fuel: 1,
             building: 0,
-        },
+        }),
     },
     Entry {
         number: 18,

@@ -5,12 +5,11 @@ mod examples;
 mod line;
 
 use examples::worked_examples;
-use line::judged_line;
+use line::JudgedLine;
 
 fn main(rt: HostRuntime) -> anyhow::Result<()> {
-    let heap = rt.alloc();
     for entry in worked_examples() {
-        rt.print(judged_line(heap, &entry)?)?;
+        rt.print(JudgedLine(&entry))?;
     }
     Ok(())
 }
