@@ -1,4 +1,3 @@
 mod Borne
-pub mod Found
 pub mod Grounds
 mod Partition
