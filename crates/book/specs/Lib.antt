@@ -3,6 +3,7 @@ pub mod Lands
 pub mod Crops
 pub mod Ranges
 pub mod Manure
+pub mod Residues
 pub mod Activity
 pub mod Nearest
 pub mod Grams

@@ -1,5 +1,5 @@
 // Crops: what each leaves on the field and in the ground.
-ghost use Rattle.std.specs.Prelude.{◌≡◌};
+ghost use Rattle.std.specs.Prelude.{◌≡◌, IfSome};
 ghost use Rattle.book.specs.Crops.{row_of, ShareLimit};
 
 use super::lookup::{Numbered, place};
@@ -106,6 +106,7 @@ const CROP_ROWS: [CropRow; 6] = [
 pub fn crop_row(code: u32) -> Option<CropRow>
     ensures row { result ≡ row_of code }
     ensures limit { ShareLimit result }
+    ensures coded { IfSome result (λ row. row.code ≡ code) }
 {
     let i = place(&CROP_ROWS, code)?;
     Some(CROP_ROWS[i])

@@ -34,7 +34,14 @@ impl TryFrom<Activity> for LawfulActivity {
             Activity::Grazing(herd) => Ok(LawfulActivity::Grazing(herd)),
             Activity::Residues(given) => {
                 let row = crop_row(given.crop).ok_or(Ground::UnknownCrop.at(5))?;
-                Ok(LawfulActivity::Residues(LawfulResidues { given, row }))
+                Ok(LawfulActivity::Residues(LawfulResidues {
+                    row,
+                    harvest: given.harvest,
+                    area: given.area,
+                    burnt: given.burnt as u8,
+                    removed: given.removed as u8,
+                    years: given.years as u8,
+                }))
             }
             Activity::Mineralised { carbon } => Ok(LawfulActivity::Mineralised { carbon }),
             Activity::Drained { class, area } => {

@@ -32,25 +32,26 @@ quotient_borne ts some =
       largest = λ k h b. le-min ((le-div_iff_mul-le some).1 (omega arith)) h;
     }
 
--- each fit trial has something applied, and so has each chosen one
-pub chosen_applied : (m : Material) (w : Water) (ts : List Trial) → trials_fit ts ≡ true → All (λ t. 1 ≤ t.applied) (chosen m w ts)
-chosen_applied m w ts fit =
-    let each : All (λ t. 1 ≤ t.applied) ts = λ i d h.
-    let fits = and_at each_fits trial_fits refl (λ _ _. refl) ts i d h (and_parts (leb (length ts) 64) (each_fits ts) fit).1 in
-    grind (arith, nat_tests) in
-    All-filter (is_of m w) (λ t. 1 ≤ t.applied) ts each
+-- each chosen trial is fit
+pub chosen_fit : (m : Material) (w : Water) (ts : List Trial) → trials_fit ts ≡ true → All (λ t. trial_fits t ≡ true) (chosen m w ts)
+chosen_fit m w ts fit =
+    All-filter (is_of m w) (λ t. trial_fits t ≡ true) ts
+    (λ i d h. and_at each_fits trial_fits refl (λ _ _. refl) ts i d h (and_parts (leb (length ts) 64) (each_fits ts) fit).1)
 
-applied_positive : (t : Trial) (ts : List Trial) → All (λ t. 1 ≤ t.applied) (t ∷ ts) → 0 < applied_in (t ∷ ts)
-applied_positive t ts each = omega (arith, each 0 t (omega arith), get_or-le-sum_by (λ t. t.applied) (t ∷ ts) 0 t (omega arith))
+-- a fit trial has something applied, whatever others do
+applied_positive : (t : Trial) (ts : List Trial) → trial_fits t ≡ true → 0 < applied_in (t ∷ ts)
+applied_positive t ts fits =
+    let some : 1 ≤ t.applied = grind (arith, nat_tests) in
+    omega (arith, get_or-le-sum_by (λ t. t.applied) (t ∷ ts) 0 t (omega arith))
 
 -- where nothing was applied there is no trial
-pub answer_none : (m : Material) (w : Water) (ts : List Trial) → All (λ t. 1 ≤ t.applied) ts → applied_in ts ≡ 0 → direct2006 m w ≡ answer m w ts
+pub answer_none : (m : Material) (w : Water) (ts : List Trial) → All (λ t. trial_fits t ≡ true) ts → applied_in ts ≡ 0 → direct2006 m w ≡ answer m w ts
 answer_none m w [] each e = refl
-answer_none m w (t ∷ ts) each e = absurd (omega (arith, applied_positive t ts each))
+answer_none m w (t ∷ ts) each e = absurd (omega (arith, applied_positive t ts (each 0 t (omega arith))))
 
-answers : (m : Material) (w : Water) (ts : List Trial) → All (λ t. 1 ≤ t.applied) ts → Answers m w ts (answer m w ts)
+answers : (m : Material) (w : Water) (ts : List Trial) → All (λ t. trial_fits t ≡ true) ts → Answers m w ts (answer m w ts)
 answers m w [] each = refl
-answers m w (t ∷ ts) each = quotient_borne (t ∷ ts) (applied_positive t ts each)
+answers m w (t ∷ ts) each = quotient_borne (t ∷ ts) (applied_positive t ts (each 0 t (omega arith)))
 
 at_both : (ts : List Trial) (m : Material) (b : ByWater) (w : Water) → Both ts m b → at_water b w ≡ answer m w (chosen m w ts)
 at_both ts m b Flooded both = both.at_flooded
@@ -61,5 +62,5 @@ made ts p fit both =
     let same : (m : Material) (s : Site) → at_water (kept_for p m) s.water ≡ answer m s.water (chosen m s.water ts) = λ m s. at_both ts m (kept_for p m) s.water (both m) in (
       simp fit,
       ap with_direct (fun_ext (λ m. fun_ext (λ s. same m s))),
-      λ m s. subst (λ (n : ℕ). Answers m s.water (chosen m s.water ts) n) (sym (same m s)) (answers m s.water (chosen m s.water ts) (chosen_applied m s.water ts fit)),
+      λ m s. subst (λ (n : ℕ). Answers m s.water (chosen m s.water ts) n) (sym (same m s)) (answers m s.water (chosen m s.water ts) (chosen_fit m s.water ts fit)),
     )

@@ -60,16 +60,24 @@ impl TryFrom<u32> for DrainedClass {
     }
 }
 
-impl fmt::Display for DrainedClass {
-    ghost output = { λ c. Some (class_name c) };
-
-    fn fmt<W: fmt::Write>(&self, f: &mut fmt::Formatter<W>) -> fmt::Result {
-        f.write_str(match self {
+impl DrainedClass {
+    pub fn name(self) -> &'static str
+        ensures { result.now ≡ class_name self }
+    {
+        match self {
             DrainedClass::TemperateCropGrass => "temperate crop and grass",
             DrainedClass::TropicalCropGrass => "tropical crop and grass",
             DrainedClass::TemperateForestRich => "temperate forest, rich",
             DrainedClass::TemperateForestPoor => "temperate forest, poor",
             DrainedClass::TropicalForest => "tropical forest",
-        })
+        }
+    }
+}
+
+impl fmt::Display for DrainedClass {
+    ghost output = { λ c. Some (class_name c) };
+
+    fn fmt<W: fmt::Write>(&self, f: &mut fmt::Formatter<W>) -> fmt::Result {
+        f.write_str(self.name())
     }
 }

@@ -49,18 +49,26 @@ impl From<Material> for u8 {
     }
 }
 
-impl fmt::Display for Material {
-    ghost output = { λ m. Some (material_name m) };
-
-    fn fmt<W: fmt::Write>(&self, f: &mut fmt::Formatter<W>) -> fmt::Result {
-        f.write_str(match self {
+impl Material {
+    pub fn name(self) -> &'static str
+        ensures { result.now ≡ material_name self }
+    {
+        match self {
             Material::Synthetic => "synthetic",
             Material::Organic => "organic",
             Material::Residue => "residue",
             Material::Mineralised => "mineralised",
             Material::CattlePoultryPigs => "grazing cattle, poultry, pigs",
             Material::SheepAndOthers => "grazing sheep and others",
-        })
+        }
+    }
+}
+
+impl fmt::Display for Material {
+    ghost output = { λ m. Some (material_name m) };
+
+    fn fmt<W: fmt::Write>(&self, f: &mut fmt::Formatter<W>) -> fmt::Result {
+        f.write_str(self.name())
     }
 }
 
@@ -86,14 +94,22 @@ impl Listed<3> for CarbonMaterial {
     ghost each = { has_carbon_material };
 }
 
+impl CarbonMaterial {
+    pub fn name(self) -> &'static str
+        ensures { result.now ≡ carbon_name self }
+    {
+        match self {
+            CarbonMaterial::Limestone => "limestone",
+            CarbonMaterial::Dolomite => "dolomite",
+            CarbonMaterial::Urea => "urea",
+        }
+    }
+}
+
 impl fmt::Display for CarbonMaterial {
     ghost output = { λ m. Some (carbon_name m) };
 
     fn fmt<W: fmt::Write>(&self, f: &mut fmt::Formatter<W>) -> fmt::Result {
-        f.write_str(match self {
-            CarbonMaterial::Limestone => "limestone",
-            CarbonMaterial::Dolomite => "dolomite",
-            CarbonMaterial::Urea => "urea",
-        })
+        f.write_str(self.name())
     }
 }
